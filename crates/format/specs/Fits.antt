@@ -1,0 +1,31 @@
+-- Which contexts a rule is about, and which of them belong together.
+-- Assumes nothing.
+use Prim.Native.Nat.{ℕ}
+use mathlib.Core.Bool.{Bool, cond, not, _&&_, _||_}
+use mathlib.Core.List.{List}
+use lib.Dec.{eqb, leb}
+use Rattle.words.specs.Lists.{allBelow, tab, sameList}
+use Rattle.format.specs.Request.{Request, contextOf, depthOf, levelType, levelValue}
+use Rattle.format.specs.Rule.{Rule, Level}
+
+-- what a level asks of a context's level: "the same type, and for mark 1 the same value"
+unfoldable pub levelFits : Level → ℕ → ℕ → Bool
+levelFits l type value = eqb type (l .type) && (not (eqb (l .mark) 1) || eqb value (l .value))
+
+-- "A context fits a rule if it has at least the rule's depth and, at each rule level, the same type, and for mark 1 the same value."
+unfoldable pub fits : Rule → Request → Bool
+fits r q =
+    leb (r .depth) (depthOf (contextOf q))
+    && allBelow (r .depth) (λ i. levelFits (r .level i) (levelType (contextOf q) i) (levelValue (contextOf q) i))
+
+-- what a level takes of a context's value into the run place: the value at mark 3, and nothing, written 0, at any other mark
+unfoldable pub placeValue : Level → ℕ → ℕ
+placeValue l value = cond (eqb (l .mark) 3) value 0
+
+-- the run place of a request under a rule that it fits: the values at the marks 3
+unfoldable pub place : Rule → Request → List ℕ
+place r q = tab (λ i. placeValue (r .level i) (levelValue (contextOf q) i)) 0 (r .depth)
+
+-- "Two fitting contexts share a run place if they agree in value at each mark 3."
+unfoldable pub samePlace : Rule → Request → Request → Bool
+samePlace r q p = sameList (place r q) (place r p)

@@ -1,0 +1,9 @@
+pub mod Answer
+pub mod Layout
+pub mod Block
+pub mod Request
+pub mod Rule
+pub mod Fits
+pub mod Policy
+pub mod Table
+pub mod Calls

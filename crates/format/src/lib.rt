@@ -1,0 +1,1 @@
+// The images of document 01, policy, table, record and request, and their checks. So far specs/ and proofs/ alone.

@@ -1,0 +1,5 @@
+pub mod Tally
+pub mod Verdict
+pub mod NewTable
+pub mod Decide
+pub mod Sample

@@ -1,0 +1,69 @@
+-- Demand 3, the claim, in plain words:
+--
+-- Take any policy that passes its check, any number of blocks b from 1 to 128, and any list of requests, whatever the bytes and length of each, empty
+-- or of any length. Put the requests one after another to `decide`, the first with the table made fresh under the policy, each other with the table
+-- as the last one left it. Put the same requests to the full register, which starts with no grant, forgets none and never sees the table. Then
+--   answers: each answer of the engine, its numbers included, is the register's;
+--   tables:  at the start and after each call the table is, byte by byte, the image that the register prescribes: the grants that some rule still
+--            counts, in the order granted, marked for exactly those rules;
+--   nobody:  at no point has any user reached the forbidden number in any run of a rule, the step just granted counted in.
+--
+-- The proof is proofs/Demand3.antt of this crate.
+-- Assumes nothing.
+use Prim.Native.Nat.{ℕ, _≤_}
+use mathlib.Core.Path.{_≡_}
+use mathlib.Core.List.{List, [], _∷_, map}
+use mathlib.Core.Option.{none}
+use Rattle.format.specs.Answer.{Answer, accept, grant, refuse, Outcome}
+use Rattle.format.specs.Layout.{capacity, tableBlocks}
+use Rattle.format.specs.Request.{Request}
+use Rattle.format.specs.Policy.{Policy, policyFault, policyOf}
+use Rattle.format.specs.Table.{freshTable}
+use Rattle.judge.specs.Decide.{decide}
+use Rattle.register.specs.Register.{registerStep}
+use Rattle.register.specs.Image.{registerImage}
+use Rattle.register.specs.Reached.{standing, withStep, Nobody}
+
+-- ---- calls one after another, each on the state that the last one left
+
+-- their answers
+unfoldable pub answers : {S C : Type 0} → (S → C → Outcome S) → S → List C → List Answer
+answers step s [] = []
+answers step s (c ∷ cs) = step s c .answer ∷ answers step (step s c .state) cs
+
+-- the state at every point: at the start, and after each call
+unfoldable pub states : {S C : Type 0} → (S → C → Outcome S) → S → List C → List S
+states step s [] = s ∷ []
+states step s (c ∷ cs) = s ∷ states step (step s c .state) cs
+
+-- ---- nobody has reached the forbidden number, at any point
+
+-- what a grant asks besides: "the step just granted counted in"
+unfoldable pub AtGrant : Answer → Type 0 → Type 0
+AtGrant (accept n) X = Unit {0}
+AtGrant (grant recorded removed held) X = X
+AtGrant (refuse r) X = Unit {0}
+
+unfoldable pub NobodyEver : Policy → ℕ → List Request → List (List ℕ) → Type 0
+NobodyEver p room l [] = Nobody p (standing p l)
+NobodyEver p room l (q ∷ qs) =
+    Nobody p (standing p l)
+    × AtGrant (registerStep p room l q .answer) (Nobody p (withStep p l q))
+    × NobodyEver p room (registerStep p room l q .state) qs
+
+-- ---- the claim
+
+pub record Kept (policy : List ℕ) (b : ℕ) (requests : List (List ℕ)) : Type 0 where
+  pub answers-same :
+      answers (decide policy) (freshTable policy b) requests
+      ≡ answers (registerStep (policyOf policy) (capacity b)) [] requests
+  pub tables-same :
+      states (decide policy) (freshTable policy b) requests
+      ≡ map (registerImage policy b) (states (registerStep (policyOf policy) (capacity b)) [] requests)
+  pub nobody : NobodyEver (policyOf policy) (capacity b) [] requests
+
+unfoldable pub Demand3 : Type 0
+Demand3 =
+    (policy : List ℕ) → policyFault policy ≡ none
+    → (b : ℕ) → 1 ≤ b → b ≤ tableBlocks
+    → (requests : List (List ℕ)) → Kept policy b requests

@@ -1,0 +1,5 @@
+pub mod Run
+pub mod Register
+pub mod Image
+pub mod Reached
+pub mod Demand3
