@@ -1,0 +1,4 @@
+pub mod Run
+pub mod Lies
+pub mod Step
+pub mod Nobody

@@ -1,0 +1,170 @@
+-- Nobody reaches the forbidden number: a grant is given only where step 3 finds everyone below m, and a run grows by granted requests alone.
+-- Assumes nothing.
+use Prim.Native.Nat.{ℕ, zero, suc, _+_, _<_, _≤_, min}
+use mathlib.Core.Path.{_≡_, refl, sym, ap, _∙_, subst}
+use mathlib.Core.Bool.{Bool, true, false, cond, not, _&&_, _||_}
+use mathlib.Core.List.{List, [], _∷_, _++_, map, append-nil}
+use mathlib.Core.Option.{Option, none, some}
+use native.Mathlib.Nat.{min-zero}
+use native.Mathlib.Omega.{arith}
+use borrow.Author.Tests.{eqb-true, lt-leb, not-true}
+use lib.ListN.{length}
+use lib.Dec.{eqb, leb}
+use Rattle.words.specs.Lists.{keep, anyOf, nonEmpty, sumBelow, sameList}
+use Rattle.words.specs.First.{_orElse_, unless, first}
+use Rattle.words.proofs.Keep.{keep-append, map-append}
+use Rattle.words.proofs.Same.{same-eq, same-refl}
+use Rattle.words.proofs.First.{orElse-left, orElse-right, unless-none, none-first}
+use Rattle.format.specs.Answer.{Answer, grant, Refusal, refusal, Outcome, refusing}
+use Rattle.format.specs.Request.{Request, user, requestFault}
+use Rattle.format.specs.Rule.{Rule, Exclusion, isSet}
+use Rattle.format.specs.Fits.{fits, place}
+use Rattle.format.specs.Policy.{Policy}
+use Rattle.judge.specs.Tally.{sameUser, roleTally, timesListed, timesDone, repeats, privilegeTally, tally, reached, exclusionNumber, counted}
+use Rattle.judge.specs.Verdict.{permitted, isFirst, isLast, judges, failing, verdict}
+use Rattle.register.specs.Run.{Entry, entriesOf, ofPlace, run}
+use Rattle.register.specs.Register.{runOf, openRun, pastRun, recordedOf, removedOf, heldOf, registerFault, registerStep}
+use Rattle.register.specs.Reached.{NobodyIn, standing, withStep, Nobody}
+use Rattle.register.specs.Demand3.{AtGrant, NobodyEver}
+use Rattle.register.proofs.Run.{next, entries-nil, run-nil, runNext, continues}
+use Rattle.register.proofs.Lies.{runOf-snoc}
+
+-- ---- no requests, no count
+
+sum-zero : (n : ℕ) (f : ℕ → ℕ) → ((i : ℕ) → f i ≡ 0) → sumBelow n f ≡ 0
+unfolding sumBelow
+sum-zero zero f h = refl
+sum-zero (suc n) f h = rw (h n, sum-zero n f h)
+
+tally-none : (x : Exclusion) → tally x [] ≡ 0
+unfolding tally roleTally privilegeTally timesDone keep anyOf
+tally-none x = go (eqb (x .kind) 1)
+  where
+    privileges : (i : ℕ) → cond (repeats x i) 0 (min (timesListed x (x .member i)) 0) ≡ 0
+    privileges i = rw (min-zero (timesListed x (x .member i))) (both (repeats x i))
+      where
+        both : (b : Bool) → _≡_ {A = ℕ} (cond b 0 0) 0
+        both true = refl
+        both false = refl
+
+    go : (b : Bool) → cond b (roleTally x []) (privilegeTally x []) ≡ 0
+    go true = sum-zero (x .n) _ (λ i. refl)
+    go false = sum-zero (x .n) _ privileges
+
+none-reached : (x : Exclusion) → 0 < x .m → reached x [] ≡ false
+unfolding reached
+none-reached x h = rw tally-none (lt-leb (x .m) 0 h)
+
+-- ---- what a verdict without refusal says
+
+-- every exclusion of a policy asks for at least one
+abbrev pub Positive : Policy → Type 0
+Positive p = (i : ℕ) → i < p .rules → (e : ℕ) → e < p .rule i .exclusions → 0 < p .rule i .exclusion e .m
+
+module _ (p : Policy) (l : List Request) (q : Request) where
+  -- the request, counted with its user's past, leaves each exclusion of a judging rule below m
+  passed :
+      verdict p q (openRun p l q) (pastRun p l q) ≡ none
+      → (i : ℕ) → i < p .rules → judges (p .rule i) q (openRun p l q i) ≡ true
+      → (e : ℕ) → e < p .rule i .exclusions → reached (p .rule i .exclusion e) (counted q (pastRun p l q i)) ≡ false
+  unfolding verdict failing
+  passed v i h j e k =
+      not-true _ (unless-none _ _ (none-first _ 0 (p .rule i .exclusions) rule e (omega arith) (omega arith)))
+    where
+      rows : ℕ → Option Refusal
+      rows n = cond (judges (p .rule n) q (openRun p l q n)) (failing n (p .rule n) q (pastRun p l q n)) none
+
+      rule : failing i (p .rule i) q (pastRun p l q i) ≡ none
+      rule =
+          let row : rows i ≡ none = none-first rows 0 (p .rules) (orElse-right _ _ v) i (omega arith) (omega arith) in
+          rw j at row
+
+  -- at a grant: the run before it, with the request added where the rule judges it
+  at-grant : Nobody p (standing p l) → verdict p q (openRun p l q) (pastRun p l q) ≡ none → Nobody p (withStep p l q)
+  unfolding Nobody NobodyIn withStep keep sameUser counted pastRun standing
+  at-grant before v i h e k key u =
+      rw (keep-append (sameUser u) (standing p l i key) _)
+      (go (judges r q (openRun p l q i)) refl (sameList (place r q) key) refl)
+    where
+      r : Rule
+      r = p .rule i
+
+      x : Exclusion
+      x = r .exclusion e
+
+      still : reached x (keep (sameUser u) (standing p l i key) ++ []) ≡ false
+      still = rw append-nil (before i h e k key u)
+
+      go :
+          (a : Bool) → judges r q (openRun p l q i) ≡ a → (b : Bool) → sameList (place r q) key ≡ b
+          → reached x (keep (sameUser u) (standing p l i key) ++ keep (sameUser u) (cond (a && b) (q ∷ []) [])) ≡ false
+      go false t b s = still
+      go true t false s = still
+      go true t true s = own (sameUser u q) refl
+        where
+          own : (c : Bool) → sameUser u q ≡ c → reached x (keep (sameUser u) (standing p l i key) ++ cond c (q ∷ []) []) ≡ false
+          own false w = still
+          own true w =
+              subst (λ (z : ℕ). reached x (keep (sameUser z) (standing p l i key) ++ (q ∷ [])) ≡ false) (eqb-true (user q) u w)
+              (subst (λ (z : List ℕ). reached x (keep (sameUser (user q)) (standing p l i z) ++ (q ∷ [])) ≡ false) (same-eq (place r q) key s)
+              (passed v i h t e k))
+
+  -- after a grant: a run is as it was, or ended, or has the request with those of before
+  after-grant : Positive p → Nobody p (standing p l) → Nobody p (withStep p l q) → Nobody p (standing p (l ++ (q ∷ [])))
+  unfolding Nobody NobodyIn withStep standing keep judges openRun ofPlace
+  after-grant pos before at i h e k key u =
+      rw (runOf-snoc p i l q key) (go (fits r q) refl (sameList (place r q) key) refl (isLast r q) (continues r q s) refl)
+    where
+      r : Rule
+      r = p .rule i
+
+      x : Exclusion
+      x = r .exclusion e
+
+      s : List Entry
+      s = runOf p l i key
+
+      below : (es : List Entry) → Type 0
+      below es = reached x (keep (sameUser u) (map (λ y. y .request) es)) ≡ false
+
+      go :
+          (a : Bool) → fits r q ≡ a → (b : Bool) → sameList (place r q) key ≡ b → (c d : Bool) → continues r q s ≡ d
+          → below (cond (a && b) (cond c [] (cond d (s ++ (next l q ∷ [])) s)) s)
+      go false ta b tb c d td = before i h e k key u
+      go true ta false tb c d td = before i h e k key u
+      go true ta true tb true d td = none-reached x (pos i h e k)
+      go true ta true tb false false td = before i h e k key u
+      go true ta true tb false true td = rw (map-append (λ y. y .request) s (next l q ∷ [])) (rw added at (at i h e k key u))
+        where
+          added : (fits r q && continues r q (runOf p l i (place r q))) && sameList (place r q) key ≡ true
+          added = rw (same-eq (place r q) key tb, ta, td, same-refl key)
+
+-- ---- at every point
+
+at-start : (p : Policy) → Positive p → Nobody p (standing p [])
+unfolding Nobody NobodyIn standing runOf keep
+at-start p pos i h e k key u = rw (entries-nil, run-nil) (none-reached (p .rule i .exclusion e) (pos i h e k))
+
+-- from a list at which nobody has reached m, over any requests
+onwards : (p : Policy) (room : ℕ) → Positive p → (qs : List (List ℕ)) (l : List Request) → Nobody p (standing p l) → NobodyEver p room l qs
+unfolding NobodyEver AtGrant registerStep refusing registerFault
+onwards p room pos [] l now = now
+onwards p room pos (q ∷ qs) l now = go (onwards p room pos qs) (registerFault p room l q) refl
+  where
+    granted : Outcome (List Request)
+    granted = record { answer = grant (recordedOf p l q) (removedOf p l (l ++ (q ∷ []))) (heldOf p (l ++ (q ∷ []))); state = l ++ (q ∷ []) }
+
+    go :
+        ((l′ : List Request) → Nobody p (standing p l′) → NobodyEver p room l′ qs)
+        → (f : Option Refusal) → registerFault p room l q ≡ f
+        → Nobody p (standing p l)
+        × AtGrant (refusing f l granted .answer) (Nobody p (withStep p l q))
+        × NobodyEver p room (refusing f l granted .state) qs
+    go rest none e =
+        let passes : verdict p q (openRun p l q) (pastRun p l q) ≡ none = orElse-left _ _ (orElse-right (requestFault q) _ e) in
+        let at : Nobody p (withStep p l q) = at-grant p l q now passes in
+        (now, at, rest (l ++ (q ∷ [])) (after-grant p l q pos now at))
+    go rest (some r) e = (now, tt, rest l now)
+
+pub nobody-ever : (p : Policy) (room : ℕ) → Positive p → (qs : List (List ℕ)) → NobodyEver p room [] qs
+nobody-ever p room pos qs = onwards p room pos qs [] (at-start p pos)

@@ -1,0 +1,186 @@
+-- One request: where the table's records are those that the register prescribes, the judge and the register say the same and leave the same.
+-- This holds of every list of requests, whether decisions lead to it or not.
+-- Assumes nothing.
+use Prim.Native.Nat.{ℕ, zero, suc, _+_, _<_, _≤_}
+use mathlib.Core.Path.{_≡_, refl, sym, ap, _∙_, subst, fun-ext}
+use mathlib.Core.Bool.{Bool, true, false, cond, not, _&&_, _||_}
+use mathlib.Core.List.{List, [], _∷_, _++_, map}
+use mathlib.Core.Option.{Option, none, some}
+use native.Mathlib.Omega.{arith}
+use lib.ListN.{length, length-append, length-map}
+use lib.Dec.{eqb, leb}
+use Rattle.words.specs.Lists.{keep, anyOf, anyBelow, nonEmpty, sameList}
+use Rattle.words.specs.First.{_orElse_, unless, first}
+use Rattle.words.specs.Bytes.{bit, bits}
+use Rattle.words.proofs.Every.{Every, nil, cons, every-all, every-map, keep-same, map-same, every-keep}
+use Rattle.words.proofs.Keep.{keep-append, keep-keep, keep-map, anyOf-keep, nonEmpty-map, map-map, map-append}
+use Rattle.words.proofs.Bits.{bit-bits, bits-same, bits-some, anyBelow-same, anyBelow-at, anyBelow-both}
+use Rattle.words.proofs.First.{first-same}
+use Rattle.format.specs.Answer.{Answer, grant, Refusal, refusal, Outcome, refusing}
+use Rattle.format.specs.Request.{Request, requestFault}
+use Rattle.format.specs.Fits.{place, samePlace}
+use Rattle.format.specs.Policy.{Policy}
+use Rattle.format.specs.Table.{Record, marked, hasMark}
+use Rattle.judge.specs.Verdict.{judges, failing, permitted, isLast, verdict}
+use Rattle.judge.specs.NewTable.{standsIn, openIn, pastIn, ends, gives, recordOf, cleared, sweep, newTable, grantOf, tableAfter, judgeFault}
+use Rattle.register.specs.Run.{Entry, entriesOf}
+use Rattle.register.specs.Register.{runOf, openRun, pastRun, lies, liesInSome, heldOf, removedOf, recordedOf, registerFault}
+use Rattle.register.specs.Image.{recordFor, recordsFor}
+use Rattle.register.proofs.Run.{next, entries-snoc, entries-before}
+use Rattle.register.proofs.Lies.{lies-old, lies-new, stands, run-lies}
+
+module _ (p : Policy) (l : List Request) where
+  -- a record of the image is marked for the rules in whose runs the entry lies
+  marked-for : (i : ℕ) (x : Entry) → i < p .rules → marked i (recordFor p l x) ≡ lies p l i x
+  unfolding recordFor
+  marked-for i x h = bit-bits (p .rules) (λ j. lies p l j x) i h
+
+  has-mark : (x : Entry) → hasMark (recordFor p l x) ≡ liesInSome p l x
+  unfolding recordFor liesInSome
+  has-mark x = bits-some (p .rules) (λ i. lies p l i x)
+
+  -- the records that the image has in the request's run place are the run
+  pub past-same : (q : Request) (i : ℕ) → i < p .rules → pastIn p (recordsFor p l) q i ≡ pastRun p l q i
+  unfolding pastIn recordsFor recordFor pastRun standsIn stands samePlace liesInSome
+  past-same q i h =
+      rw (keep-map (recordFor p l) (standsIn p q i) (keep (liesInSome p l) (entriesOf l)), keep-keep (liesInSome p l) (λ x. standsIn p q i (recordFor p l x)) (entriesOf l), map-map)
+      (ap (map (λ x. x .request))
+      (keep-same (λ x. liesInSome p l x && standsIn p q i (recordFor p l x)) (stands p i l (place (p .rule i) q)) (every-all (λ x. liesInSome p l x && standsIn p q i (recordFor p l x) ≡ stands p i l (place (p .rule i) q) x) each (entriesOf l))
+      ∙ run-lies p i (place (p .rule i) q) l))
+    where
+      each : (x : Entry) → liesInSome p l x && standsIn p q i (recordFor p l x) ≡ stands p i l (place (p .rule i) q) x
+      each x = rw (marked-for i x h) (go (lies p l i x) refl (sameList (place (p .rule i) q) (place (p .rule i) (x .request))))
+        where
+          and-false : (a : Bool) → a && false ≡ false
+          and-false true = refl
+          and-false false = refl
+
+          go : (a : Bool) → lies p l i x ≡ a → (b : Bool) → liesInSome p l x && (a && b) ≡ a && b
+          go true e b = rw (anyBelow-at (p .rules) (λ j. lies p l j x) i h e)
+          go false e b = and-false (liesInSome p l x)
+
+  pub open-same : (q : Request) (i : ℕ) → i < p .rules → openIn p (recordsFor p l) q i ≡ openRun p l q i
+  unfolding openIn openRun pastIn pastRun
+  open-same q i h =
+      anyOf-keep (standsIn p q i) (λ r. r .request) (recordsFor p l)
+      ∙ ap nonEmpty (past-same q i h)
+      ∙ nonEmpty-map (λ x. x .request) (runOf p l i (place (p .rule i) q))
+
+  -- steps 1 to 3
+  pub verdict-same : (q : Request) → verdict p q (openIn p (recordsFor p l) q) (pastIn p (recordsFor p l) q) ≡ verdict p q (openRun p l q) (pastRun p l q)
+  unfolding verdict
+  verdict-same q =
+      ap (λ (o : Option Refusal). unless (permitted p q) (refusal 31 0 0) orElse o)
+      (first-same _ _ 0 (p .rules) each)
+    where
+      each :
+          (i : ℕ) → 0 ≤ i → i < 0 + p .rules
+          → cond (judges (p .rule i) q (openIn p (recordsFor p l) q i)) (failing i (p .rule i) q (pastIn p (recordsFor p l) q i)) none
+          ≡ cond (judges (p .rule i) q (openRun p l q i)) (failing i (p .rule i) q (pastRun p l q i)) none
+      each i a b = let h : i < p .rules = omega arith in rw (open-same q i h, past-same q i h)
+
+-- step 4, for whatever says which run places are open, as long as it says it of the rules alike
+module _ (p : Policy) (l : List Request) (q : Request) where
+  after : List Request
+  after = l ++ (q ∷ [])
+
+  opened : ℕ → Bool
+  opened = openIn p (recordsFor p l) q
+
+  ends-same : (i : ℕ) → i < p .rules → ends p q opened i ≡ ends p q (openRun p l q) i
+  unfolding ends opened
+  ends-same i h = rw (open-same p l q i h)
+
+  gives-same : (i : ℕ) → i < p .rules → gives p q opened i ≡ gives p q (openRun p l q) i
+  unfolding gives opened
+  gives-same i h = rw (open-same p l q i h)
+
+  -- a record of before, cleared, is the record that the register prescribes afterwards
+  cleared-old : (x : Entry) → x .at < length l → cleared p q opened (recordFor p l x) ≡ recordFor p after x
+  unfolding cleared recordFor after
+  cleared-old x h = ap (λ (m : ℕ). record { request = x .request; marks = m }) (bits-same (p .rules) _ _ each)
+    where
+      each :
+          (i : ℕ) → i < p .rules
+          → marked i (recordFor p l x) && not (ends p q opened i && samePlace (p .rule i) q (x .request))
+          ≡ lies p (l ++ (q ∷ [])) i x
+      each i k = rw (marked-for p l i x k, ends-same i k) (sym (lies-old p i l q x h))
+
+  record-new : recordOf p q opened ≡ recordFor p after (next l q)
+  unfolding recordOf recordFor after
+  record-new = ap (λ (m : ℕ). record { request = q; marks = m }) (bits-same (p .rules) _ _ (λ i h. gives-same i h ∙ sym (lies-new p i l q)))
+
+  -- what still lies in a run did so before
+  lies-shrink : (x : Entry) → x .at < length l → liesInSome p l x && liesInSome p after x ≡ liesInSome p after x
+  unfolding liesInSome after
+  lies-shrink x h =
+      rw (anyBelow-same (p .rules) (λ i. lies p (l ++ (q ∷ [])) i x) (λ i. lies p l i x && not (ends p q (openRun p l q) i && samePlace (p .rule i) q (x .request))) (λ i k. lies-old p i l q x h))
+      (anyBelow-both (p .rules) (λ i. lies p l i x) (λ i. not (ends p q (openRun p l q) i && samePlace (p .rule i) q (x .request))))
+
+  -- the records of before, cleared, by any test of what is left
+  cleared-kept :
+      (t : Record → Bool)
+      → keep t (map (cleared p q opened) (recordsFor p l))
+      ≡ map (recordFor p after) (keep (λ x. liesInSome p l x && t (recordFor p after x)) (entriesOf l))
+  unfolding recordsFor
+  cleared-kept t =
+      rw (map-map (recordFor p l) (cleared p q opened) (keep (liesInSome p l) (entriesOf l)), keep-map (λ x. cleared p q opened (recordFor p l x)) t (keep (liesInSome p l) (entriesOf l)), keep-keep (liesInSome p l) (λ x. t (cleared p q opened (recordFor p l x))) (entriesOf l))
+      (ap (map (λ x. cleared p q opened (recordFor p l x)))
+      (keep-same _ _ (every-map (λ x. x .at < length l) (λ x. liesInSome p l x && t (cleared p q opened (recordFor p l x)) ≡ liesInSome p l x && t (recordFor p after x)) (λ x h. rw (cleared-old x h)) (entries-before l)))
+      ∙ map-same (λ x. cleared p q opened (recordFor p l x)) (recordFor p after)
+      (every-keep _ (λ x. liesInSome p l x && t (recordFor p after x)) (every-map (λ x. x .at < length l) (λ x. cleared p q opened (recordFor p l x) ≡ recordFor p after x) cleared-old (entries-before l))))
+
+  -- the first part of the new table, and the second
+  swept-old : sweep (map (cleared p q opened) (recordsFor p l)) ≡ map (recordFor p after) (keep (liesInSome p after) (entriesOf l))
+  unfolding sweep
+  swept-old =
+      cleared-kept hasMark
+      ∙ ap (map (recordFor p after))
+      (keep-same _ _ (every-map (λ x. x .at < length l) (λ x. liesInSome p l x && hasMark (recordFor p after x) ≡ liesInSome p after x) (λ x h. rw (has-mark p after x) (lies-shrink x h)) (entries-before l)))
+
+  swept-new : sweep (recordOf p q opened ∷ []) ≡ map (recordFor p after) (keep (liesInSome p after) (next l q ∷ []))
+  unfolding sweep keep
+  swept-new = rw (record-new, has-mark p after (next l q)) (go (liesInSome p after (next l q)))
+    where
+      go : (b : Bool) → cond b (recordFor p after (next l q) ∷ []) [] ≡ map (recordFor p after) (cond b (next l q ∷ []) [])
+      go true = refl
+      go false = refl
+
+  -- step 4: the new table is the one that the register prescribes
+  pub table-same : tableAfter p (recordsFor p l) q ≡ recordsFor p (l ++ (q ∷ []))
+  unfolding tableAfter newTable recordsFor after opened
+  table-same =
+      rw (entries-snoc l q, keep-append (liesInSome p after) (entriesOf l) (next l q ∷ []), map-append)
+      (cc (swept-old, swept-new))
+
+  -- held
+  pub held-same : length (tableAfter p (recordsFor p l) q) ≡ heldOf p (l ++ (q ∷ []))
+  unfolding recordsFor heldOf
+  held-same = ap length table-same ∙ length-map (keep (liesInSome p (l ++ (q ∷ []))) (entriesOf (l ++ (q ∷ [])))) (recordFor p (l ++ (q ∷ [])))
+
+  -- recorded and removed
+  recorded-same : length (sweep (recordOf p q opened ∷ [])) ≡ recordedOf p l q
+  unfolding recordedOf keep after
+  recorded-same = rw swept-new (go (liesInSome p after (next l q)))
+    where
+      go : (b : Bool) → length (map (recordFor p after) (cond b (next l q ∷ []) [])) ≡ cond b 1 0
+      go true = refl
+      go false = refl
+
+  removed-same : length (keep (λ r. not (hasMark r)) (map (cleared p q opened) (recordsFor p l))) ≡ removedOf p l (l ++ (q ∷ []))
+  unfolding removedOf after
+  removed-same =
+      rw (cleared-kept (λ r. not (hasMark r)), length-map)
+      (ap length (keep-same _ _ (every-all (λ x. liesInSome p l x && not (hasMark (recordFor p after x)) ≡ liesInSome p l x && not (liesInSome p after x)) (λ x. rw (has-mark p after x)) (entriesOf l))))
+
+  -- the three numbers of a grant
+  pub grant-same :
+      grantOf p q (openIn p (recordsFor p l) q) (recordsFor p l)
+      ≡ grant (recordedOf p l q) (removedOf p l (l ++ (q ∷ []))) (heldOf p (l ++ (q ∷ [])))
+  unfolding grantOf opened tableAfter
+  grant-same = rw (recorded-same, removed-same, held-same)
+
+  -- all that the judge and the register can refuse
+  pub fault-same : (room : ℕ) → registerFault p room l q ≡ requestFault q orElse judgeFault p room (recordsFor p l) q
+  unfolding registerFault judgeFault
+  fault-same room = rw (verdict-same p l q, held-same)
