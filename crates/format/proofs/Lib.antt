@@ -1,0 +1,4 @@
+pub mod Check
+pub mod RecordImage
+pub mod BlockImage
+pub mod TableImage

@@ -1,0 +1,47 @@
+-- When nothing applies: `none` of a test, of two checks in a row, and of a check at each number of a range.
+-- Assumes nothing.
+use Prim.Native.Nat.{ℕ, zero, suc, _+_, _≤_, _<_}
+use native.Mathlib.Decide.{decLt}
+use native.Mathlib.Omega.{arith}
+use mathlib.Core.Path.{_≡_, refl}
+use mathlib.Core.Bool.{Bool, true, false}
+use mathlib.Core.Option.{Option, none, some}
+use Rattle.words.specs.First.{_orElse_, unless, first}
+
+module _ {A : Type 0} where
+  pub unless-passes : {t : Bool} (a : A) → t ≡ true → unless t a ≡ none
+  unfolding unless
+  unless-passes a h = rw h
+
+  pub passes-unless : (t : Bool) (a : A) → unless t a ≡ none → t ≡ true
+  unfolding unless
+  passes-unless true a h = refl
+  passes-unless false a h = cc
+
+  pub orElse-none : {x y : Option A} → x ≡ none → y ≡ none → x orElse y ≡ none
+  unfolding _orElse_
+  orElse-none p q = rw (p, q)
+
+  pub none-first : (x y : Option A) → x orElse y ≡ none → x ≡ none
+  unfolding _orElse_
+  none-first none y h = refl
+  none-first (some a) y h = h
+
+  pub none-second : (x y : Option A) → x orElse y ≡ none → y ≡ none
+  unfolding _orElse_
+  none-second none y h = h
+  none-second (some a) y h = cc
+
+  pub first-none : (f : ℕ → Option A) (k n : ℕ) → ((i : ℕ) → k ≤ i → i < k + n → f i ≡ none) → first f k n ≡ none
+  unfolding first
+  first-none f k zero h = refl
+  first-none f k (suc n) h = orElse-none (h k (omega arith) (omega arith)) (first-none f (suc k) n (λ i lo hi. h i (omega arith) (omega arith)))
+
+  pub none-at : (f : ℕ → Option A) (k n i : ℕ) → first f k n ≡ none → k ≤ i → i < k + n → f i ≡ none
+  unfolding first
+  none-at f k zero i h lo hi = absurd (omega arith)
+  none-at f k (suc n) i h lo hi = go (none-at f (suc k) n i (none-second (f k) (first f (suc k) n) h)) (decLt k i)
+    where
+      go : (suc k ≤ i → i < suc k + n → f i ≡ none) → Dec (k < i) → f i ≡ none
+      go later (yes l) = later l (omega arith)
+      go later (no g) = let e : i ≡ k = omega arith in rw e (none-first (f k) (first f (suc k) n) h)
