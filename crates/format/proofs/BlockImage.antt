@@ -18,9 +18,13 @@ use Rattle.words.proofs.Tests.{both}
 use Rattle.words.proofs.Sums.{Fit}
 use Rattle.format.specs.Layout.{tableKind, recordBytes, blockRecords, blockBytes, recordsAt}
 use Rattle.format.specs.Block.{kind, number, total, goodCheck, sumBytes, sealed}
+use Rattle.format.specs.Table.{Record, count, recordBytesAt, recordAt, goodStamp, recordImage, blockImage}
 use Rattle.format.proofs.RecordImage.{Whole, record-of-image, images, images-of-length, length-images}
 use Rattle.format.proofs.Check.{length-sealed, sealed-passes}
-use Rattle.format.specs.Table.{Record, count, recordBytesAt, recordAt, goodStamp, recordImage, blockImage}
+
+-- the records that a block says
+abbrev pub recordsIn : List ℕ → List Record
+recordsIn B = tab (recordAt B) 0 (count B)
 
 -- what `getD` answers past the end of a list of records
 pub noRecord : Record
@@ -29,14 +33,14 @@ noRecord = record { request = []; marks = 0 }
 -- ---- the shape of a block
 
 -- its first 24 bytes
-abbrev header : Sums → ℕ → ℕ → ℕ → List ℕ
+abbrev pub header : Sums → ℕ → ℕ → ℕ → List ℕ
 header t b k n = bytes4 tableKind ++ bytes2 k ++ bytes2 b ++ bytes2 n ++ zeros 6 ++ (bytes4 (t .a) ++ bytes4 (t .b))
 
 -- all but the check
-abbrev body : Sums → ℕ → ℕ → List Record → List ℕ
+abbrev pub body : Sums → ℕ → ℕ → List Record → List ℕ
 body t b k rs = header t b k (length rs) ++ images rs ++ zeros (recordBytes * (blockRecords - length rs))
 
-shape : (t : Sums) (b k : ℕ) (rs : List Record) → blockImage t b k rs ≡ sealed (body t b k rs)
+pub shape : (t : Sums) (b k : ℕ) (rs : List Record) → blockImage t b k rs ≡ sealed (body t b k rs)
 unfolding blockImage sumBytes
 shape t b k rs = refl
 
@@ -98,7 +102,7 @@ module _ (t : Sums) (b k : ℕ) (rs : List Record) (few : length rs ≤ blockRec
   unfolding recordAt
   record-read i d h = rw (bytes-read i d h) (record-of-image (getD rs i d) (every-getD d i ws h))
 
-  pub records-read : tab (recordAt (blockImage t b k rs)) 0 (count (blockImage t b k rs)) ≡ rs
+  pub records-read : recordsIn (blockImage t b k rs) ≡ rs
   records-read =
       rw (count-read t b k rs few)
       (tab-cong (recordAt (blockImage t b k rs)) (λ i. getD rs i noRecord) 0 (length rs) (λ i lo hi. record-read i noRecord (omega arith))

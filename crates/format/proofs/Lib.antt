@@ -2,3 +2,5 @@ pub mod Check
 pub mod RecordImage
 pub mod BlockImage
 pub mod TableImage
+pub mod AcceptedBlock
+pub mod Accepted

@@ -1,14 +1,15 @@
--- The image of a record is 32 bytes, and says the record.
+-- The image of a record is 32 bytes and says the record, and any 32 bytes are the image of the record that they say.
 -- Assumes nothing.
 use Prim.Native.Nat.{ℕ, _*_, _<_}
-use mathlib.Core.Path.{_≡_, ap₂, _∙_}
+use native.Mathlib.Omega.{arith}
+use mathlib.Core.Path.{refl, _≡_, ap₂, _∙_}
 use mathlib.Core.List.{List, flatten, map}
+use lib.Seq.{take-all, length-take-le, take-at}
 use lib.ListN.{length, take, length-append, length-map}
-use lib.Seq.{take-at}
 use Rattle.words.specs.Bytes.{u32At, bytes4}
+use Rattle.words.proofs.Lists.{front-grows, OfLength, length-flatten}
+use Rattle.words.proofs.Bytes.{Byte, bytes4-u32At, u32At-below, read4, u32At-past}
 use Rattle.words.proofs.Every.{Every, every-map}
-use Rattle.words.proofs.Lists.{OfLength, length-flatten}
-use Rattle.words.proofs.Bytes.{read4, u32At-past}
 use Rattle.format.specs.Layout.{requestBytes, recordBytes}
 use Rattle.format.specs.Table.{Record, recordImage}
 
@@ -27,6 +28,16 @@ record-of-image r h =
     ap₂ {C = Record} (λ q m. record { request = q; marks = m })
     (take-at (r .request) (bytes4 (r .marks)) requestBytes (h .request-length))
     (u32At-past (r .request) (bytes4 (r .marks)) requestBytes 0 (h .request-length) ∙ read4 (r .marks) (h .marks-fit))
+
+-- and 32 bytes are the image of what they say
+pub image-of-bytes : (s : List ℕ) → Every Byte s → length s ≡ recordBytes
+    → recordImage (record { request = take requestBytes s; marks = u32At s requestBytes }) ≡ s
+unfolding recordImage
+image-of-bytes s bytes e = front-grows s requestBytes 4 refl (bytes4-u32At s bytes requestBytes (omega arith)) ∙ take-all recordBytes s (omega arith)
+
+pub whole-of-bytes : (s : List ℕ) → Every Byte s → length s ≡ recordBytes → Whole (record { request = take requestBytes s; marks = u32At s requestBytes })
+whole-of-bytes s bytes e =
+    record { request-length = length-take-le requestBytes s (omega arith); marks-fit = u32At-below s bytes requestBytes (omega arith) }
 
 -- the images of some records, joined
 abbrev pub images : List Record → List ℕ

@@ -25,7 +25,7 @@ use Rattle.format.specs.Policy.{Policy, policyOf, stamp}
 use Rattle.format.specs.Layout.{blockBytes, blockRecords, capacity, tableBlocks}
 use Rattle.format.specs.Block.{blocks, block, goodLength}
 use Rattle.format.specs.Table.{Record, recordAt, count, blockImage, tableImage, recordsOf, gap, goodRecord, goodTableHeader, tableBlockFault, tableLengthFault, tableFault}
-use Rattle.format.proofs.BlockImage.{block-length, records-read, kind-read, number-read, total-read, count-read, spare-read, places-read, stamp-read, check-read, record-read, noRecord}
+use Rattle.format.proofs.BlockImage.{recordsIn, block-length, records-read, kind-read, number-read, total-read, count-read, spare-read, places-read, stamp-read, check-read, record-read, noRecord}
 pub use Rattle.format.proofs.RecordImage.{Whole}
 
 -- the records of block k
@@ -68,11 +68,11 @@ module _ (t : Sums) (b : ℕ) (rs : List Record) (ws : Every Whole rs) where
   unfolding recordsOf
   said h =
       rw image-blocks
-      (ap flatten (tab-cong (λ k. tab (recordAt (block (tableImage t b rs) k)) 0 (count (block (tableImage t b rs) k))) (chunk rs) 0 b (λ k lo hi. in-block k (omega arith)))
+      (ap flatten (tab-cong (λ k. recordsIn (block (tableImage t b rs) k)) (chunk rs) 0 b (λ k lo hi. in-block k (omega arith)))
       ∙ flatten-parts blockRecords rs 0 b
       ∙ take-all (blockRecords * b) rs h)
     where
-      in-block : (k : ℕ) → k < b → tab (recordAt (block (tableImage t b rs) k)) 0 (count (block (tableImage t b rs) k)) ≡ chunk rs k
+      in-block : (k : ℕ) → k < b → recordsIn (block (tableImage t b rs) k) ≡ chunk rs k
       in-block k h = rw (image-block k h) (records-read t b k (chunk rs k) (few rs k) (whole k))
 
   -- ---- the check

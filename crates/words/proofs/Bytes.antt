@@ -28,7 +28,8 @@ getD-past p q n i d e = rw (← e) (getD-append-add p q i d)
 
 pub u32At-past : (p q : List ℕ) (n i : ℕ) → length p ≡ n → u32At (p ++ q) (n + i) ≡ u32At q i
 u32At-past p q n i e =
-    rw (add-assoc n i 1, add-assoc n i 2, add-assoc n i 3, getD-past p q n i 0 e, getD-past p q n (i + 1) 0 e, getD-past p q n (i + 2) 0 e, getD-past p q n (i + 3) 0 e)
+    rw (add-assoc n i 1, add-assoc n i 2, add-assoc n i 3)
+    (rw (getD-past p q n i 0 e, getD-past p q n (i + 1) 0 e, getD-past p q n (i + 2) 0 e, getD-past p q n (i + 3) 0 e))
 
 -- ---- numbers
 
@@ -56,28 +57,36 @@ write4 a b c d ha hb hc hd =
     (ap₂ {C = List ℕ} (λ x y. x ∷ y ∷ []) (omega arith) (omega arith)))
 
 module _ (s : List ℕ) (bytes : Every Byte s) where
+  byte : (i : ℕ) → i < length s → Byte (getD s i 0)
+  byte i h = every-getD 0 i bytes h
+
   pub bytes2-u16At : (i : ℕ) → i + 2 ≤ length s → bytes2 (u16At s i) ≡ part s i 2
   unfolding tab
   bytes2-u16At i h =
-      write2 (getD s i 0) (getD s (i + 1) 0) (every-getD 0 i bytes (omega arith)) (every-getD 0 (i + 1) bytes (omega arith))
-      ∙ rw (add-one) (tab-getD s 0 i 2 h)
+      write2 (getD s i 0) (getD s (i + 1) 0) (byte i (omega arith)) (byte (i + 1) (omega arith)) ∙ rw add-one (tab-getD s 0 i 2 h)
 
   pub bytes4-u32At : (i : ℕ) → i + 4 ≤ length s → bytes4 (u32At s i) ≡ part s i 4
   unfolding tab
   bytes4-u32At i h =
-      write4 (getD s i 0) (getD s (i + 1) 0) (getD s (i + 2) 0) (getD s (i + 3) 0) (every-getD 0 i bytes (omega arith)) (every-getD 0 (i + 1) bytes (omega arith)) (every-getD 0 (i + 2) bytes (omega arith)) (every-getD 0 (i + 3) bytes (omega arith))
+      write4 (getD s i 0) (getD s (i + 1) 0) (getD s (i + 2) 0) (getD s (i + 3) 0)
+      (byte i (omega arith)) (byte (i + 1) (omega arith)) (byte (i + 2) (omega arith)) (byte (i + 3) (omega arith))
       ∙ rw (add-one, add-two, add-three) (tab-getD s 0 i 4 h)
 
   pub u32At-below : (i : ℕ) → i + 4 ≤ length s → u32At s i < 4294967296
-  u32At-below i h = omega (arith, every-getD 0 i bytes (omega arith), every-getD 0 (i + 1) bytes (omega arith), every-getD 0 (i + 2) bytes (omega arith), every-getD 0 (i + 3) bytes (omega arith))
+  u32At-below i h =
+      omega (arith, byte i (omega arith), byte (i + 1) (omega arith), byte (i + 2) (omega arith), byte (i + 3) (omega arith))
 
 -- ---- zeros
 
 pub zeros-read : (p q : List ℕ) (at n : ℕ) → length p ≡ at → zeroFrom (p ++ zeros n ++ q) at n ≡ true
 unfolding zeroFrom
 zeros-read p q at n e =
-    allBelow-true n (λ i. eqb (getD (p ++ zeros n ++ q) (at + i) 0) 0)
-    (λ i h. eq-eqb (getD (p ++ zeros n ++ q) (at + i) 0) 0 (rw append-assoc (getD-past p (zeros n ++ q) at i 0 e ∙ List·getD-append (zeros n) q 0 i (rw length-replicate h) ∙ getD-replicate n i 0 0 h)))
+    allBelow-true n (λ i. eqb (getD (p ++ zeros n ++ q) (at + i) 0) 0) (λ i h. eq-eqb (getD (p ++ zeros n ++ q) (at + i) 0) 0 (zero-at i h))
+  where
+    zero-at : (i : ℕ) → i < n → getD (p ++ zeros n ++ q) (at + i) 0 ≡ 0
+    zero-at i h =
+        rw (append-assoc, getD-past p (zeros n ++ q) at i 0 e)
+        (List·getD-append (zeros n) q 0 i (rw length-replicate h) ∙ getD-replicate n i 0 0 h)
 
 tab-zero : (k n : ℕ) → tab (λ i. 0) k n ≡ zeros n
 unfolding tab

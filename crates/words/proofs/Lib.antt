@@ -5,3 +5,4 @@ pub mod Tests
 pub mod First
 pub mod Sums
 pub mod Bytes
+pub mod Packed

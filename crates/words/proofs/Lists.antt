@@ -38,7 +38,9 @@ module _ {A : Type 0} where
   pub tab-getD : (l : List A) (d : A) (k n : ℕ) → k + n ≤ length l → tab (λ i. getD l i d) k n ≡ take n (drop k l)
   unfolding tab
   tab-getD l d k zero h = refl
-  tab-getD l d k (suc n) h = let b : k < length l = omega arith in rw (drop-cons l k d b) (ap {B = List A} (λ r. getD l k d ∷ r) (tab-getD l d (suc k) n (omega arith)))
+  tab-getD l d k (suc n) h =
+      let b : k < length l = omega arith in
+      rw (drop-cons l k d b) (ap {B = List A} (λ r. getD l k d ∷ r) (tab-getD l d (suc k) n (omega arith)))
 
   -- ---- lists joined
 
@@ -67,13 +69,23 @@ module _ {A : Type 0} where
   flatten-parts w l k (suc n) =
       rw (flatten-parts w l (suc k) n, mul-suc w n, add-comm (w * n) w, take-add, drop-drop w (w * k) l, ← mul-suc w k)
 
+-- a front, and the part that stands behind it
+pub front-grows : {A : Type 0} {p q : List A} (l : List A) (i n : ℕ) → p ≡ take i l → q ≡ take n (drop i l) → p ++ q ≡ take (i + n) l
+front-grows l i n e f = ap₂ _++_ e f ∙ sym (take-add i n l)
+
+pub map-tab : {A B : Type 0} (f : A → B) (g : ℕ → A) (k n : ℕ) → map f (tab g k n) ≡ tab (λ i. f (g i)) k n
+unfolding tab
+map-tab f g k zero = refl
+map-tab {B} f g k (suc n) = ap {B = List B} (λ r. f (g k) ∷ r) (map-tab f g (suc k) n)
+
 pub getD-map : {A B : Type 0} (f : A → B) (l : List A) (i : ℕ) (d : A) (e : B) → i < length l → getD (map f l) i e ≡ f (getD l i d)
 getD-map f [] i d e h = absurd (omega arith)
 getD-map f (x ∷ xs) zero d e h = refl
 getD-map f (x ∷ xs) (suc i) d e h = getD-map f xs i d e (omega arith)
 
 -- of lists of one width that are made by index, the part at index i is list i
-pub part-tab : {A : Type 0} (w : ℕ) (f : ℕ → List A) (n i : ℕ) → Every (OfLength w) (tab f 0 n) → i < n → take w (drop (w * i) (flatten (tab f 0 n))) ≡ f i
+pub part-tab : {A : Type 0} (w : ℕ) (f : ℕ → List A) (n i : ℕ) → Every (OfLength w) (tab f 0 n) → i < n
+    → take w (drop (w * i) (flatten (tab f 0 n))) ≡ f i
 part-tab w f n i ps h =
     rw (← append-nil (flatten (tab f 0 n)))
     (part-flatten w i [] ps (rw length-tab h) ∙ getD-tab f 0 n i [] h ∙ ap f (zero-add i))
