@@ -10,7 +10,7 @@ use borrow.Author.Tests.{ne-eqb, eq-eqb}
 use lib.ListN.{length}
 use lib.Dec.{eqb}
 use Rattle.words.specs.Lists.{keep, anyOf, nonEmpty, sameList}
-use Rattle.words.proofs.Every.{Every, nil, cons, every-all, every-map, keep-same}
+use Rattle.words.proofs.Every.{Every, empty, more as also, every-all, every-weaken, keep-same}
 use Rattle.words.proofs.Keep.{snoc-induction, keep-append, keep-none, anyOf-append, empty-is-nil}
 use Rattle.words.proofs.Same.{same-refl, same-eq, same-swap}
 use Rattle.format.specs.Request.{Request}
@@ -35,8 +35,8 @@ module _ (p : Policy) (i : ℕ) where
 
 not-in : (x : Entry) (es : List Entry) → Every (λ y. y .at < x .at) es → isIn x es ≡ false
 unfolding isIn anyOf
-not-in x [] nil = refl
-not-in x (y ∷ es) (cons h t) = rw (ne-eqb (y .at) (x .at) (λ e. omega arith)) (not-in x es t)
+not-in x [] empty = refl
+not-in x (y ∷ es) (also h t) = rw (ne-eqb (y .at) (x .at) (λ e. omega arith)) (not-in x es t)
 
 in-none : (x : Entry) → isIn x [] ≡ false
 unfolding isIn anyOf
@@ -160,7 +160,7 @@ module _ (p : Policy) (i : ℕ) where
         ≡ cond (ends p q (openRun p l q) i && sameList (place (p .rule i) q) key) [] (runOf p l i key)
     unfolding stands samePlace
     old-part =
-        keep-same (stands (l ++ (q ∷ [])) key) (λ x. stands l key x && not E) (every-map (λ x. x .at < length l) (λ x. stands (l ++ (q ∷ [])) key x ≡ stands l key x && not E) each (entries-before l))
+        keep-same (stands (l ++ (q ∷ [])) key) (λ x. stands l key x && not E) (every-weaken {P = λ x. x .at < length l} {Q = λ x. stands (l ++ (q ∷ [])) key x ≡ stands l key x && not E} each (entries-before l))
         ∙ all E
       where
         E : Bool

@@ -14,7 +14,7 @@ use Rattle.words.specs.Lists.{keep, anyOf, nonEmpty, sumBelow, sameList}
 use Rattle.words.specs.First.{_orElse_, unless, first}
 use Rattle.words.proofs.Keep.{keep-append, map-append}
 use Rattle.words.proofs.Same.{same-eq, same-refl}
-use Rattle.words.proofs.First.{orElse-left, orElse-right, unless-none, none-first}
+use Rattle.words.proofs.First.{none-first, none-second, passes-unless, none-at}
 use Rattle.format.specs.Answer.{Answer, grant, Refusal, refusal, Outcome, refusing}
 use Rattle.format.specs.Request.{Request, user, requestFault}
 use Rattle.format.specs.Rule.{Rule, Exclusion, isSet}
@@ -69,14 +69,14 @@ module _ (p : Policy) (l : List Request) (q : Request) where
       → (e : ℕ) → e < p .rule i .exclusions → reached (p .rule i .exclusion e) (counted q (pastRun p l q i)) ≡ false
   unfolding verdict failing
   passed v i h j e k =
-      not-true _ (unless-none _ _ (none-first _ 0 (p .rule i .exclusions) rule e (omega arith) (omega arith)))
+      not-true _ (passes-unless _ _ (none-at _ 0 (p .rule i .exclusions) e rule (omega arith) (omega arith)))
     where
       rows : ℕ → Option Refusal
       rows n = cond (judges (p .rule n) q (openRun p l q n)) (failing n (p .rule n) q (pastRun p l q n)) none
 
       rule : failing i (p .rule i) q (pastRun p l q i) ≡ none
       rule =
-          let row : rows i ≡ none = none-first rows 0 (p .rules) (orElse-right _ _ v) i (omega arith) (omega arith) in
+          let row : rows i ≡ none = none-at rows 0 (p .rules) i (none-second _ _ v) (omega arith) (omega arith) in
           rw j at row
 
   -- at a grant: the run before it, with the request added where the rule judges it
@@ -161,7 +161,7 @@ onwards p room pos (q ∷ qs) l now = go (onwards p room pos qs) (registerFault 
         × AtGrant (refusing f l granted .answer) (Nobody p (withStep p l q))
         × NobodyEver p room (refusing f l granted .state) qs
     go rest none e =
-        let passes : verdict p q (openRun p l q) (pastRun p l q) ≡ none = orElse-left _ _ (orElse-right (requestFault q) _ e) in
+        let passes : verdict p q (openRun p l q) (pastRun p l q) ≡ none = none-first _ _ (none-second (requestFault q) _ e) in
         let at : Nobody p (withStep p l q) = at-grant p l q now passes in
         (now, at, rest (l ++ (q ∷ [])) (after-grant p l q pos now at))
     go rest (some r) e = (now, tt, rest l now)

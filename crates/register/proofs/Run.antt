@@ -9,7 +9,7 @@ use native.Mathlib.Omega.{arith}
 use lib.ListN.{length, length-append}
 use lib.Dec.{eqb}
 use Rattle.words.specs.Lists.{keep, anyOf, nonEmpty, sameList}
-use Rattle.words.proofs.Every.{Every, nil, cons, every-all, every-append, every-left, every-right, every-head, every-map}
+use Rattle.words.proofs.Every.{Every, empty, more as also, every-all, every-append, every-left, every-right, every-head, every-weaken}
 use Rattle.words.proofs.Keep.{snoc-induction, keep-append, anyOf-append}
 use Rattle.format.specs.Request.{Request}
 use Rattle.format.specs.Rule.{Rule, isSet}
@@ -38,15 +38,15 @@ entries-nil = refl
 
 numbered-below : (k : ℕ) (l : List Request) → Every (λ x. x .at < k + length l) (numbered k l)
 unfolding numbered
-numbered-below k [] = nil
+numbered-below k [] = empty
 numbered-below k (q ∷ l) =
     let here : k < k + suc (length l) = omega arith in
-    cons here (every-map (λ x. x .at < suc k + length l) (λ x. x .at < k + suc (length l)) (λ x h. omega arith) (numbered-below (suc k) l))
+    also here (every-weaken {P = λ x. x .at < suc k + length l} {Q = λ x. x .at < k + suc (length l)} (λ x h. omega arith) (numbered-below (suc k) l))
 
 -- an entry of a list stands before the list's end
 pub entries-before : (l : List Request) → Every (λ x. x .at < length l) (entriesOf l)
 unfolding entriesOf
-entries-before l = every-map (λ x. x .at < 0 + length l) (λ x. x .at < length l) (λ x h. omega arith) (numbered-below 0 l)
+entries-before l = every-weaken {P = λ x. x .at < 0 + length l} {Q = λ x. x .at < length l} (λ x h. omega arith) (numbered-below 0 l)
 
 -- ---- the two cuts
 
@@ -179,7 +179,7 @@ run-snoc r key es x =
 run-every : (r : Rule) (key : List ℕ) (P : Entry → Type 0) (es : List Entry) → Every (λ x. ofPlace r key x ≡ true → P x) es → Every P (run r key es)
 run-every r key P =
     snoc-induction (λ es. Every Q es → Every P (run r key es))
-    (λ h. rw run-nil nil)
+    (λ h. rw run-nil empty)
     (λ es x ih h. rw run-snoc (more es x (ih (every-left Q es (x ∷ []) h)) (every-head Q (every-right Q es (x ∷ []) h))))
   where
     Q : Entry → Type 0
@@ -191,8 +191,8 @@ run-every r key P =
         go :
             (a : Bool) → ofPlace r key x ≡ a → (b c : Bool)
             → Every P (cond a (cond b [] (cond c (run r key es ++ (x ∷ [])) (run r key es))) (run r key es))
-        go true e true c = nil
-        go true e false true = every-append P ih (cons (q e) nil)
+        go true e true c = empty
+        go true e false true = every-append ih (also (q e) empty)
         go true e false false = ih
         go false e b c = ih
 
@@ -206,4 +206,4 @@ run-place r key es =
 pub run-before : (r : Rule) (key : List ℕ) (l : List Request) → Every (λ x. x .at < length l) (run r key (entriesOf l))
 run-before r key l =
     run-every r key (λ x. x .at < length l) (entriesOf l)
-    (every-map (λ x. x .at < length l) (λ x. ofPlace r key x ≡ true → x .at < length l) (λ x h e. h) (entries-before l))
+    (every-weaken {P = λ x. x .at < length l} {Q = λ x. ofPlace r key x ≡ true → x .at < length l} (λ x h e. h) (entries-before l))

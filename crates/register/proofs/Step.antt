@@ -12,7 +12,7 @@ use lib.Dec.{eqb, leb}
 use Rattle.words.specs.Lists.{keep, anyOf, anyBelow, nonEmpty, sameList}
 use Rattle.words.specs.First.{_orElse_, unless, first}
 use Rattle.words.specs.Bytes.{bit, bits}
-use Rattle.words.proofs.Every.{Every, nil, cons, every-all, every-map, keep-same, map-same, every-keep}
+use Rattle.words.proofs.Every.{Every, every-all, every-weaken, keep-same, map-same, every-keep}
 use Rattle.words.proofs.Keep.{keep-append, keep-keep, keep-map, anyOf-keep, nonEmpty-map, map-map, map-append}
 use Rattle.words.proofs.Bits.{bit-bits, bits-same, bits-some, anyBelow-same, anyBelow-at, anyBelow-both}
 use Rattle.words.proofs.First.{first-same}
@@ -126,9 +126,9 @@ module _ (p : Policy) (l : List Request) (q : Request) where
   cleared-kept t =
       rw (map-map (recordFor p l) (cleared p q opened) (keep (liesInSome p l) (entriesOf l)), keep-map (λ x. cleared p q opened (recordFor p l x)) t (keep (liesInSome p l) (entriesOf l)), keep-keep (liesInSome p l) (λ x. t (cleared p q opened (recordFor p l x))) (entriesOf l))
       (ap (map (λ x. cleared p q opened (recordFor p l x)))
-      (keep-same _ _ (every-map (λ x. x .at < length l) (λ x. liesInSome p l x && t (cleared p q opened (recordFor p l x)) ≡ liesInSome p l x && t (recordFor p after x)) (λ x h. rw (cleared-old x h)) (entries-before l)))
+      (keep-same _ _ (every-weaken {P = λ x. x .at < length l} {Q = λ x. liesInSome p l x && t (cleared p q opened (recordFor p l x)) ≡ liesInSome p l x && t (recordFor p after x)} (λ x h. rw (cleared-old x h)) (entries-before l)))
       ∙ map-same (λ x. cleared p q opened (recordFor p l x)) (recordFor p after)
-      (every-keep _ (λ x. liesInSome p l x && t (recordFor p after x)) (every-map (λ x. x .at < length l) (λ x. cleared p q opened (recordFor p l x) ≡ recordFor p after x) cleared-old (entries-before l))))
+      (every-keep _ (λ x. liesInSome p l x && t (recordFor p after x)) (every-weaken {P = λ x. x .at < length l} {Q = λ x. cleared p q opened (recordFor p l x) ≡ recordFor p after x} cleared-old (entries-before l))))
 
   -- the first part of the new table, and the second
   swept-old : sweep (map (cleared p q opened) (recordsFor p l)) ≡ map (recordFor p after) (keep (liesInSome p after) (entriesOf l))
@@ -136,7 +136,7 @@ module _ (p : Policy) (l : List Request) (q : Request) where
   swept-old =
       cleared-kept hasMark
       ∙ ap (map (recordFor p after))
-      (keep-same _ _ (every-map (λ x. x .at < length l) (λ x. liesInSome p l x && hasMark (recordFor p after x) ≡ liesInSome p after x) (λ x h. rw (has-mark p after x) (lies-shrink x h)) (entries-before l)))
+      (keep-same _ _ (every-weaken {P = λ x. x .at < length l} {Q = λ x. liesInSome p l x && hasMark (recordFor p after x) ≡ liesInSome p after x} (λ x h. rw (has-mark p after x) (lies-shrink x h)) (entries-before l)))
 
   swept-new : sweep (recordOf p q opened ∷ []) ≡ map (recordFor p after) (keep (liesInSome p after) (next l q ∷ []))
   unfolding sweep keep

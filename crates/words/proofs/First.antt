@@ -1,38 +1,55 @@
--- Laws of "the first that applies".
+-- When nothing applies: `none` of a test, of two checks in a row, and of a check at each number of a range.
 -- Assumes nothing.
-use Prim.Native.Nat.{ℕ, zero, suc, _+_, _<_, _≤_}
-use mathlib.Core.Path.{_≡_, refl, sym, ap, _∙_}
-use mathlib.Core.Bool.{Bool, true, false}
-use mathlib.Core.Option.{Option, none, some}
+use Prim.Native.Nat.{ℕ, zero, suc, _+_, _≤_, _<_}
 use native.Mathlib.Decide.{decLt}
 use native.Mathlib.Omega.{arith}
+use mathlib.Core.Path.{_≡_, refl}
+use mathlib.Core.Bool.{Bool, true, false}
+use mathlib.Core.Option.{Option, none, some}
 use Rattle.words.specs.First.{_orElse_, unless, first}
 
 module _ {A : Type 0} where
-  pub orElse-assoc : (a b c : Option A) → (a orElse b) orElse c ≡ a orElse (b orElse c)
-  unfolding _orElse_
-  orElse-assoc none b c = refl
-  orElse-assoc (some x) b c = refl
-
-  -- where nothing applies, neither of two does
-  pub orElse-left : (a b : Option A) → a orElse b ≡ none → a ≡ none
-  unfolding _orElse_
-  orElse-left none b e = refl
-  orElse-left (some x) b e = e
-
-  pub orElse-right : (a b : Option A) → a orElse b ≡ none → b ≡ none
-  unfolding _orElse_
-  orElse-right none b e = e
-  orElse-right (some x) b e = cc
-
-  pub orElse-none : (a b : Option A) → a ≡ none → a orElse b ≡ b
-  unfolding _orElse_
-  orElse-none a b e = rw e
-
-  pub unless-none : (t : Bool) (x : A) → unless t x ≡ none → t ≡ true
+  pub unless-passes : {t : Bool} (a : A) → t ≡ true → unless t a ≡ none
   unfolding unless
-  unless-none true x e = refl
-  unless-none false x e = cc
+  unless-passes a h = rw h
+
+  pub passes-unless : (t : Bool) (a : A) → unless t a ≡ none → t ≡ true
+  unfolding unless
+  passes-unless true a h = refl
+  passes-unless false a h = cc
+
+  pub orElse-none : {x y : Option A} → x ≡ none → y ≡ none → x orElse y ≡ none
+  unfolding _orElse_
+  orElse-none p q = rw (p, q)
+
+  pub none-first : (x y : Option A) → x orElse y ≡ none → x ≡ none
+  unfolding _orElse_
+  none-first none y h = refl
+  none-first (some a) y h = h
+
+  pub none-second : (x y : Option A) → x orElse y ≡ none → y ≡ none
+  unfolding _orElse_
+  none-second none y h = h
+  none-second (some a) y h = cc
+
+  pub first-none : (f : ℕ → Option A) (k n : ℕ) → ((i : ℕ) → k ≤ i → i < k + n → f i ≡ none) → first f k n ≡ none
+  unfolding first
+  first-none f k zero h = refl
+  first-none f k (suc n) h = orElse-none (h k (omega arith) (omega arith)) (first-none f (suc k) n (λ i lo hi. h i (omega arith) (omega arith)))
+
+  pub none-at : (f : ℕ → Option A) (k n i : ℕ) → first f k n ≡ none → k ≤ i → i < k + n → f i ≡ none
+  unfolding first
+  none-at f k zero i h lo hi = absurd (omega arith)
+  none-at f k (suc n) i h lo hi = go (none-at f (suc k) n i (none-second (f k) (first f (suc k) n) h)) (decLt k i)
+    where
+      go : (suc k ≤ i → i < suc k + n → f i ≡ none) → Dec (k < i) → f i ≡ none
+      go later (yes l) = later l (omega arith)
+      go later (no g) = let e : i ≡ k = omega arith in rw e (none-first (f k) (first f (suc k) n) h)
+
+  -- where the first of two does not apply, the second decides
+  pub none-orElse : (x y : Option A) → x ≡ none → x orElse y ≡ y
+  unfolding _orElse_
+  none-orElse x y e = rw e
 
   -- rows that agree give the same first
   pub first-same : (f g : ℕ → Option A) (k n : ℕ) → ((i : ℕ) → k ≤ i → i < k + n → f i ≡ g i) → first f k n ≡ first g k n
@@ -40,19 +57,3 @@ module _ {A : Type 0} where
   first-same f g k zero h = refl
   first-same f g k (suc n) h =
       rw (h k (omega arith) (omega arith), first-same f g (suc k) n (λ i a b. h i (omega arith) (omega arith)))
-
-  -- where no row applies there is no first
-  pub first-none : (f : ℕ → Option A) (k n : ℕ) → ((i : ℕ) → k ≤ i → i < k + n → f i ≡ none) → first f k n ≡ none
-  unfolding first _orElse_
-  first-none f k zero h = refl
-  first-none f k (suc n) h = rw (h k (omega arith) (omega arith)) (first-none f (suc k) n (λ i a b. h i (omega arith) (omega arith)))
-
-  -- where there is no first, no row applies
-  pub none-first : (f : ℕ → Option A) (k n : ℕ) → first f k n ≡ none → (i : ℕ) → k ≤ i → i < k + n → f i ≡ none
-  unfolding first
-  none-first f k zero e i a b = absurd (omega arith)
-  none-first f k (suc n) e i a b = go (λ c. none-first f (suc k) n (orElse-right (f k) (first f (suc k) n) e) i c (omega arith)) (decLt k i)
-    where
-      go : (suc k ≤ i → f i ≡ none) → Dec (k < i) → f i ≡ none
-      go ih (yes c) = ih c
-      go ih (no c) = let s : i ≡ k = omega arith in rw s (orElse-left (f k) (first f (suc k) n) e)

@@ -1,6 +1,11 @@
 pub mod Examples
-pub mod Every
-pub mod Keep
-pub mod Bits
+pub mod Tests
 pub mod First
+pub mod Every
+pub mod Lists
+pub mod Keep
+pub mod Packed
 pub mod Same
+pub mod Bytes
+pub mod Bits
+pub mod Sums

@@ -1,0 +1,6 @@
+pub mod Check
+pub mod RecordImage
+pub mod BlockImage
+pub mod TableImage
+pub mod AcceptedBlock
+pub mod Accepted
