@@ -4,3 +4,4 @@ pub mod BlockImage
 pub mod TableImage
 pub mod AcceptedBlock
 pub mod Accepted
+pub mod AcceptedPolicy

@@ -2,3 +2,5 @@ pub mod Run
 pub mod Lies
 pub mod Step
 pub mod Nobody
+pub mod GoodRecords
+pub mod Demand3

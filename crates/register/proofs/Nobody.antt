@@ -15,7 +15,7 @@ use Rattle.words.specs.First.{_orElse_, unless, first}
 use Rattle.words.proofs.Keep.{keep-append, map-append}
 use Rattle.words.proofs.Same.{same-eq, same-refl}
 use Rattle.words.proofs.First.{none-first, none-second, passes-unless, none-at}
-use Rattle.format.specs.Answer.{Answer, grant, Refusal, refusal, Outcome, refusing}
+use Rattle.format.specs.Answer.{Refusal, refusal, refusing}
 use Rattle.format.specs.Request.{Request, user, requestFault}
 use Rattle.format.specs.Rule.{Rule, Exclusion, isSet}
 use Rattle.format.specs.Fits.{fits, place}
@@ -23,7 +23,7 @@ use Rattle.format.specs.Policy.{Policy}
 use Rattle.judge.specs.Tally.{sameUser, roleTally, timesListed, timesDone, repeats, privilegeTally, tally, reached, exclusionNumber, counted}
 use Rattle.judge.specs.Verdict.{permitted, isFirst, isLast, judges, failing, verdict}
 use Rattle.register.specs.Run.{Entry, entriesOf, ofPlace, run}
-use Rattle.register.specs.Register.{runOf, openRun, pastRun, recordedOf, removedOf, heldOf, registerFault, registerStep}
+use Rattle.register.specs.Register.{runOf, openRun, pastRun, registerFault, granted, registerStep}
 use Rattle.register.specs.Reached.{NobodyIn, standing, withStep, Nobody}
 use Rattle.register.specs.Demand3.{AtGrant, NobodyEver}
 use Rattle.register.proofs.Run.{next, entries-nil, run-nil, runNext, continues}
@@ -147,19 +147,16 @@ at-start p pos i h e k key u = rw (entries-nil, run-nil) (none-reached (p .rule 
 
 -- from a list at which nobody has reached m, over any requests
 onwards : (p : Policy) (room : ℕ) → Positive p → (qs : List (List ℕ)) (l : List Request) → Nobody p (standing p l) → NobodyEver p room l qs
-unfolding NobodyEver AtGrant registerStep refusing registerFault
+unfolding NobodyEver AtGrant registerStep granted refusing registerFault
 onwards p room pos [] l now = now
 onwards p room pos (q ∷ qs) l now = go (onwards p room pos qs) (registerFault p room l q) refl
   where
-    granted : Outcome (List Request)
-    granted = record { answer = grant (recordedOf p l q) (removedOf p l (l ++ (q ∷ []))) (heldOf p (l ++ (q ∷ []))); state = l ++ (q ∷ []) }
-
     go :
         ((l′ : List Request) → Nobody p (standing p l′) → NobodyEver p room l′ qs)
         → (f : Option Refusal) → registerFault p room l q ≡ f
         → Nobody p (standing p l)
-        × AtGrant (refusing f l granted .answer) (Nobody p (withStep p l q))
-        × NobodyEver p room (refusing f l granted .state) qs
+        × AtGrant (refusing f l (granted p l q) .answer) (Nobody p (withStep p l q))
+        × NobodyEver p room (refusing f l (granted p l q) .state) qs
     go rest none e =
         let passes : verdict p q (openRun p l q) (pastRun p l q) ≡ none = none-first _ _ (none-second (requestFault q) _ e) in
         let at : Nobody p (withStep p l q) = at-grant p l q now passes in

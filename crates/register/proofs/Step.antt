@@ -31,11 +31,11 @@ use Rattle.register.proofs.Lies.{lies-old, lies-new, stands, run-lies}
 
 module _ (p : Policy) (l : List Request) where
   -- a record of the image is marked for the rules in whose runs the entry lies
-  marked-for : (i : ℕ) (x : Entry) → i < p .rules → marked i (recordFor p l x) ≡ lies p l i x
+  pub marked-for : (i : ℕ) (x : Entry) → i < p .rules → marked i (recordFor p l x) ≡ lies p l i x
   unfolding recordFor
   marked-for i x h = bit-bits (p .rules) (λ j. lies p l j x) i h
 
-  has-mark : (x : Entry) → hasMark (recordFor p l x) ≡ liesInSome p l x
+  pub has-mark : (x : Entry) → hasMark (recordFor p l x) ≡ liesInSome p l x
   unfolding recordFor liesInSome
   has-mark x = bits-some (p .rules) (λ i. lies p l i x)
 

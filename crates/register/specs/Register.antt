@@ -62,11 +62,14 @@ registerFault p room l q =
     orElse verdict p q (openRun p l q) (pastRun p l q)
     orElse unless (leb (heldOf p (l ++ (q ∷ []))) room) (refusal 34 0 0)
 
--- "Otherwise it is appended .. A refusal adds nothing."
-unfoldable pub registerStep : Policy → ℕ → List Request → List ℕ → Outcome (List Request)
-registerStep p room l q =
-    refusing (registerFault p room l q) l
-    (record {
+-- "Otherwise it is appended", and the grant has its three numbers
+unfoldable pub granted : Policy → List Request → Request → Outcome (List Request)
+granted p l q =
+    record {
       answer = grant (recordedOf p l q) (removedOf p l (l ++ (q ∷ []))) (heldOf p (l ++ (q ∷ [])));
       state = l ++ (q ∷ []);
-    })
+    }
+
+-- "A refusal adds nothing."
+unfoldable pub registerStep : Policy → ℕ → List Request → List ℕ → Outcome (List Request)
+registerStep p room l q = refusing (registerFault p room l q) l (granted p l q)

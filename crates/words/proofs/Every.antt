@@ -4,8 +4,8 @@ use Prim.Native.Nat.{ℕ, zero, suc, _+_, _≤_, _<_}
 use native.Mathlib.Omega.{arith}
 use mathlib.Core.List.{List, [], _∷_, _++_, flatten, map}
 use lib.ListN.{length, getD, take, drop}
-use mathlib.Core.Path.{_≡_, refl}
-use mathlib.Core.Bool.{Bool, true, false, cond}
+use mathlib.Core.Path.{_≡_, refl, sym, _∙_}
+use mathlib.Core.Bool.{Bool, true, false, cond, false≢true}
 use Rattle.words.specs.Lists.{tab, keep}
 
 pub data Every {A : Type 0} (P : A → Type 0) : List A → Type 0 where
@@ -71,6 +71,9 @@ module _ {A : Type 0} where
   pub every-head : (P : A → Type 0) {x : A} {xs : List A} → Every P (x ∷ xs) → P x
   every-head P (more h t) = h
 
+  pub every-tail : (P : A → Type 0) {x : A} {xs : List A} → Every P (x ∷ xs) → Every P xs
+  every-tail P (more h t) = t
+
   -- what every element has, those that are kept have
   pub every-keep : (P : A → Type 0) (t : A → Bool) {xs : List A} → Every P xs → Every P (keep t xs)
   unfolding keep
@@ -91,3 +94,36 @@ module _ {A : Type 0} where
   pub map-same : {B : Type 0} (f g : A → B) {xs : List A} → Every (λ x. f x ≡ g x) xs → map f xs ≡ map g xs
   map-same f g empty = refl
   map-same f g (more h r) = rw (h, map-same f g r)
+
+  -- what is kept passes the test
+  pub kept-passes : (t : A → Bool) (xs : List A) → Every (λ x. t x ≡ true) (keep t xs)
+  unfolding keep
+  kept-passes t [] = empty
+  kept-passes t (x ∷ xs) = pick (kept-passes t xs) (t x) refl
+    where
+      pick : Every (λ y. t y ≡ true) (keep t xs) → (b : Bool) → t x ≡ b → Every (λ y. t y ≡ true) (cond b (x ∷ keep t xs) (keep t xs))
+      pick k true e = more e k
+      pick k false e = k
+
+  -- what those that are kept have, each that passes has
+  pub every-kept : (P : A → Type 0) (t : A → Bool) (xs : List A) → Every P (keep t xs) → Every (λ x. t x ≡ true → P x) xs
+  unfolding keep
+  every-kept P t [] h = empty
+  every-kept P t (x ∷ xs) h = pick (t x) refl h (every-kept P t xs)
+    where
+      pick :
+          (b : Bool) → t x ≡ b → Every P (cond b (x ∷ keep t xs) (keep t xs))
+          → (Every P (keep t xs) → Every (λ y. t y ≡ true → P y) xs)
+          → Every (λ y. t y ≡ true → P y) (x ∷ xs)
+      pick true e (more k r) ih = more (λ f. k) (ih r)
+      pick false e k ih = more (λ f. absurd (false≢true (sym e ∙ f))) (ih k)
+
+  -- a property with a parameter, at every one of its values
+  pub every-forall : {K : Type 0} (P : K → A → Type 0) (xs : List A) → ((k : K) → Every (P k) xs) → Every (λ x. (k : K) → P k x) xs
+  every-forall P [] h = empty
+  every-forall P (x ∷ xs) h = more (λ k. every-head (P k) (h k)) (every-forall P xs (λ k. every-tail (P k) (h k)))
+
+  -- two properties of every element
+  pub every-both : (P Q : A → Type 0) {xs : List A} → Every P xs → Every Q xs → Every (λ x. P x × Q x) xs
+  every-both P Q empty empty = empty
+  every-both P Q (more p ps) (more q qs) = more (p, q) (every-both P Q ps qs)

@@ -1,0 +1,148 @@
+-- Demand 3, proved: specs/Demand3.antt says in plain words what it claims.
+-- The chain: on one request judge and register agree (Step.antt) and nobody reaches m (Nobody.antt), for every list of requests; the image of good
+-- records passes the table's check and reads back (format's TableImage.antt), and the register's records are good (GoodRecords.antt); so `decide` on
+-- the image of a list leaves the image of the next list (`decide-step`), and the claim follows by induction over the requests.
+-- Assumes nothing.
+use Prim.Native.Nat.{ℕ, _≤_, _<_}
+use mathlib.Core.Path.{_≡_, refl, sym, ap, ap₂, _∙_}
+use mathlib.Core.Bool.{Bool, true}
+use mathlib.Core.List.{List, [], _∷_, _++_, map}
+use mathlib.Core.Option.{Option, none, some}
+use native.Mathlib.Omega.{arith}
+use borrow.Author.Tests.{leb-true}
+use lib.ListN.{length, length-map}
+use Rattle.words.specs.Lists.{keep}
+use Rattle.words.specs.First.{_orElse_}
+use Rattle.words.proofs.Every.{Every, empty, more as also, every-append}
+use Rattle.words.proofs.First.{none-first, none-second, passes-unless, none-orElse}
+use Rattle.format.specs.Answer.{Answer, grant, Refusal, Outcome, refusing}
+use Rattle.format.specs.Layout.{capacity, tableBlocks}
+use Rattle.format.specs.Block.{blocks}
+use Rattle.format.specs.Request.{Request, requestFault}
+use Rattle.format.specs.Policy.{Policy, policyFault, policyOf, ruleCount, stamp}
+use Rattle.format.specs.Table.{Record, tableFault, tableImage, recordsOf, freshTable}
+use Rattle.format.proofs.TableImage.{image-blocks, reads-back, passes}
+use Rattle.format.proofs.AcceptedPolicy.{rules-most, m-two}
+use Rattle.judge.specs.NewTable.{judgeFault, judge, grantOf, openIn, tableAfter}
+use Rattle.judge.specs.Decide.{decideFault, decide}
+use Rattle.register.specs.Run.{entriesOf, numbered}
+use Rattle.register.specs.Register.{heldOf, liesInSome, registerFault, granted, registerStep}
+use Rattle.register.specs.Image.{recordFor, recordsFor, registerImage}
+use Rattle.register.specs.Demand3.{answers, states, Kept, Demand3}
+use Rattle.register.proofs.Step.{fault-same, grant-same, table-same}
+use Rattle.register.proofs.GoodRecords.{Granted, records-good, records-whole}
+use Rattle.register.proofs.Nobody.{Positive, nobody-ever}
+
+module _ (policy : List ℕ) (accepted : policyFault policy ≡ none) (b : ℕ) (some-block : 1 ≤ b) (few-blocks : b ≤ tableBlocks) where
+  abbrev p : Policy
+  p = policyOf policy
+
+  -- what decisions keep of the register: granted requests have passed their check, and the records fit the table
+  abbrev Fine : List Request → Type 0
+  Fine l = Every Granted l × (length (recordsFor p l) ≤ capacity b)
+
+  few : p .rules ≤ 32
+  unfolding policyOf
+  few = rules-most policy accepted
+
+  positive : Positive p
+  unfolding policyOf
+  positive i h e k = omega (arith, m-two policy accepted i h e k)
+
+  abbrev image : List Request → List ℕ
+  image l = registerImage policy b l
+
+  -- a table that decisions wrote passes the table's check, and reads back
+  pub image-passes : (l : List Request) → Fine l → tableFault policy (image l) ≡ none
+  unfolding registerImage
+  image-passes l f = passes policy b (recordsFor p l) some-block few-blocks (records-whole p few l (f .0)) (f .1) (records-good p few l (f .0))
+
+  image-records : (l : List Request) → Fine l → recordsOf (image l) ≡ recordsFor p l
+  unfolding registerImage
+  image-records l f = reads-back (stamp policy) b (recordsFor p l) few-blocks (records-whole p few l (f .0)) (f .1)
+
+  image-size : (l : List Request) → Fine l → blocks (image l) ≡ b
+  unfolding registerImage
+  image-size l f = image-blocks (stamp policy) b (recordsFor p l) (records-whole p few l (f .0))
+
+  -- the register's outcome, with the image that it prescribes for its state
+  imaged : Outcome (List Request) → Outcome (List ℕ)
+  imaged o = record { answer = o .answer; state = image (o .state) }
+
+  -- one request: `decide` on the image of a list says what the register says, and leaves the image of the register's next list
+  decide-step : (l : List Request) → Fine l → (q : List ℕ) → decide policy (image l) q ≡ imaged (registerStep p (capacity b) l q)
+  unfolding decide decideFault imaged registerStep granted registerImage refusing judge
+  decide-step l f q =
+      rw (accepted, image-passes l f, image-size l f, image-records l f, none-orElse, none-orElse, ← fault-same p l q (capacity b))
+      (go (registerFault p (capacity b) l q) refl)
+    where
+      judged : Outcome (List Record)
+      judged = judge p (capacity b) (recordsFor p l) q
+
+      go :
+          (o : Option Refusal) → registerFault p (capacity b) l q ≡ o
+          → refusing o (image l) (record { answer = judged .answer; state = tableImage (stamp policy) b (judged .state) })
+          ≡ imaged (refusing o l (granted p l q))
+      go (some r) e = refl
+      go none e = rw (clear, grant-same p l q, table-same p l q)
+        where
+          clear : judgeFault p (capacity b) (recordsFor p l) q ≡ none
+          clear = none-second (requestFault q) _ (sym (fault-same p l q (capacity b)) ∙ e)
+
+  -- what decisions keep, one request further
+  fine-step : (l : List Request) → Fine l → (q : List ℕ) → Fine (registerStep p (capacity b) l q .state)
+  unfolding registerStep granted refusing registerFault heldOf recordsFor
+  fine-step l f q = go (registerFault p (capacity b) l q) refl
+    where
+      go : (o : Option Refusal) → registerFault p (capacity b) l q ≡ o → Fine (refusing o l (granted p l q) .state)
+      go (some r) e = f
+      go none e = (every-append (f .0) (also (none-first _ _ e) empty), fits)
+        where
+          held : heldOf p (l ++ (q ∷ [])) ≤ capacity b
+          held = leb-true (heldOf p (l ++ (q ∷ []))) (capacity b) (passes-unless _ _ (none-second _ _ (none-second (requestFault q) _ e)))
+
+          fits : length (recordsFor p (l ++ (q ∷ []))) ≤ capacity b
+          fits = rw (length-map (keep (liesInSome p (l ++ (q ∷ []))) (entriesOf (l ++ (q ∷ [])))) (recordFor p (l ++ (q ∷ [])))) held
+
+  -- ---- all requests
+
+  answers-same :
+      (requests : List (List ℕ)) (l : List Request) → Fine l
+      → answers (decide policy) (image l) requests ≡ answers (registerStep p (capacity b)) l requests
+  unfolding answers imaged
+  answers-same [] l f = refl
+  answers-same (q ∷ qs) l f = rw (decide-step l f q, answers-same qs (registerStep p (capacity b) l q .state) (fine-step l f q))
+
+  tables-same :
+      (requests : List (List ℕ)) (l : List Request) → Fine l
+      → states (decide policy) (image l) requests ≡ map image (states (registerStep p (capacity b)) l requests)
+  unfolding states imaged
+  tables-same [] l f = refl
+  tables-same (q ∷ qs) l f = rw (decide-step l f q, tables-same qs (registerStep p (capacity b) l q .state) (fine-step l f q))
+
+  -- the start: no request granted, no record, the fresh table
+  no-records : recordsFor p [] ≡ []
+  unfolding recordsFor entriesOf numbered keep
+  no-records = refl
+
+  fresh-image : image [] ≡ freshTable policy b
+  unfolding registerImage freshTable
+  fresh-image = rw no-records
+
+  fine-start : Fine []
+  fine-start = (empty, rw no-records (omega arith))
+
+pub demand-3 : Demand3
+unfolding Demand3
+demand-3 policy accepted b some-block few-blocks requests =
+    record {
+      answers-same = rw (← start) (answers-same policy accepted b some-block few-blocks requests [] fine);
+      tables-same = rw (← start) (tables-same policy accepted b some-block few-blocks requests [] fine);
+      nobody = nobody-ever (policyOf policy) (capacity b) (positive policy accepted b some-block few-blocks) requests;
+    }
+  where
+    start : registerImage policy b [] ≡ freshTable policy b
+    start = fresh-image policy accepted b some-block few-blocks
+
+    fine : Every Granted [] × (length (recordsFor (policyOf policy) []) ≤ capacity b)
+    fine = fine-start policy accepted b some-block few-blocks

@@ -1,0 +1,110 @@
+-- The records that the register prescribes are good ones: whole, with a mark, and marked only for rules that their context fits.
+-- Assumes nothing.
+use Prim.Native.Nat.{ℕ, zero, suc, _+_, _^_, _<_, _≤_}
+use mathlib.Core.Path.{_≡_, refl, sym, ap, _∙_}
+use mathlib.Core.Bool.{Bool, true, false, cond, not, _&&_, _||_}
+use mathlib.Core.List.{List, [], _∷_, map}
+use mathlib.Core.Option.{none}
+use native.Mathlib.Decide.{decLt}
+use native.Mathlib.Nat.{lt-of-lt-of-le}
+use native.Mathlib.Omega.{arith}
+use borrow.Author.Tests.{eqb-true, lt-ltb}
+use lib.ListN.{length}
+use lib.Dec.{eqb, ltb}
+use lib.Pow.{pow-mono}
+use Rattle.words.specs.Lists.{keep, allBelow, sameList}
+use Rattle.words.specs.Bytes.{bits}
+use Rattle.words.proofs.Every.{Every, empty, more as also, every-all, every-weaken, every-map, every-keep, every-kept, kept-passes, every-forall, every-both}
+use Rattle.words.proofs.Bits.{bit-bits, bit-beyond, bits-below}
+use Rattle.words.proofs.First.{none-first, none-second, passes-unless}
+use Rattle.words.proofs.Tests.{both, both-first, allBelow-true}
+use Rattle.words.proofs.Same.{same-refl}
+use Rattle.format.specs.Layout.{requestBytes, mostRules}
+use Rattle.format.specs.Request.{Request, goodRequest, requestFault}
+use Rattle.format.specs.Rule.{Rule}
+use Rattle.format.specs.Fits.{fits, place}
+use Rattle.format.specs.Policy.{Policy}
+use Rattle.format.specs.Table.{Record, marked, hasMark, goodMarks, goodRecord}
+use Rattle.format.proofs.TableImage.{Whole}
+use Rattle.register.specs.Run.{Entry, numbered, entriesOf, ofPlace, run}
+use Rattle.register.specs.Register.{runOf, lies, liesInSome}
+use Rattle.register.specs.Image.{recordFor, recordsFor}
+use Rattle.register.proofs.Run.{run-place}
+use Rattle.register.proofs.Lies.{stands, run-lies}
+use Rattle.register.proofs.Step.{has-mark, marked-for}
+
+-- a granted request has passed its check
+abbrev pub Granted : Request → Type 0
+Granted q = requestFault q ≡ none
+
+every-entry : (P : Request → Type 0) (k : ℕ) {l : List Request} → Every P l → Every (λ x. P (x .request)) (numbered k l)
+unfolding numbered
+every-entry P k empty = empty
+every-entry P k (also h t) = also h (every-entry P (suc k) t)
+
+-- an entry that lies in a run of a rule fits it
+pub lies-fits : (p : Policy) (l : List Request) (i : ℕ) → Every (λ x. lies p l i x ≡ true → fits (p .rule i) (x .request) ≡ true) (entriesOf l)
+unfolding stands ofPlace runOf
+lies-fits p l i =
+    every-weaken {P = λ x. (key : List ℕ) → Q key x} {Q = λ x. lies p l i x ≡ true → fits r (x .request) ≡ true}
+    (λ x q e. both-first _ _ (q (place r (x .request)) (both e (same-refl (place r (x .request))))))
+    (every-forall Q (entriesOf l) each)
+  where
+    r : Rule
+    r = p .rule i
+
+    Q : List ℕ → Entry → Type 0
+    Q key x = stands p i l key x ≡ true → ofPlace r key x ≡ true
+
+    each : (key : List ℕ) → Every (Q key) (entriesOf l)
+    each key = every-kept (λ x. ofPlace r key x ≡ true) (stands p i l key) (entriesOf l) (rw (run-lies p i key l) (run-place r key (entriesOf l)))
+
+module _ (p : Policy) (few : p .rules ≤ mostRules) (l : List Request) where
+  -- the marks are those of rules that the entry fits
+  marks-fit :
+      (x : Entry) → ((i : ℕ) → lies p l i x ≡ true → fits (p .rule i) (x .request) ≡ true)
+      → goodMarks p (recordFor p l x) ≡ true
+  unfolding goodMarks recordFor
+  marks-fit x fit = allBelow-true mostRules _ (λ i h. go i (decLt i (p .rules)))
+    where
+      go : (i : ℕ) → Dec (i < p .rules) → not (marked i (recordFor p l x)) || (ltb i (p .rules) && fits (p .rule i) (x .request)) ≡ true
+      go i (no h) = rw (bit-beyond (p .rules) (λ j. lies p l j x) i (omega arith))
+      go i (yes h) = rw (marked-for p l i x h, lt-ltb i (p .rules) h) (mark (lies p l i x) refl)
+        where
+          mark : (b : Bool) → lies p l i x ≡ b → not b || (true && fits (p .rule i) (x .request)) ≡ true
+          mark true e = fit i e
+          mark false e = refl
+
+  -- what is known of an entry that the image has
+  abbrev Known : Entry → Type 0
+  Known x =
+      Granted (x .request)
+      × ((i : ℕ) → lies p l i x ≡ true → fits (p .rule i) (x .request) ≡ true)
+
+  known : Every Granted l → Every (λ x. Known x × (liesInSome p l x ≡ true)) (keep (liesInSome p l) (entriesOf l))
+  unfolding entriesOf
+  known g =
+      every-both Known (λ x. liesInSome p l x ≡ true)
+      (every-keep Known (liesInSome p l)
+      (every-both (λ x. Granted (x .request)) (λ x. (i : ℕ) → lies p l i x ≡ true → fits (p .rule i) (x .request) ≡ true)
+      (every-entry Granted 0 g)
+      (every-forall (λ i x. lies p l i x ≡ true → fits (p .rule i) (x .request) ≡ true) (entriesOf l) (lies-fits p l))))
+      (kept-passes (liesInSome p l) (entriesOf l))
+
+  pub records-good : Every Granted l → Every (λ r. goodRecord p r ≡ true) (recordsFor p l)
+  unfolding recordsFor goodRecord recordFor requestFault
+  records-good g = every-map (recordFor p l) each (known g)
+    where
+      each : (x : Entry) → Known x × (liesInSome p l x ≡ true) → goodRecord p (recordFor p l x) ≡ true
+      each x k = both (both (passes-unless _ _ (none-second _ _ (k .0 .0))) (marks-fit x (k .0 .1))) (has-mark p l x ∙ k .1)
+
+  pub records-whole : Every Granted l → Every Whole (recordsFor p l)
+  unfolding recordsFor recordFor requestFault
+  records-whole g = every-map (recordFor p l) each (known g)
+    where
+      each : (x : Entry) → Known x × (liesInSome p l x ≡ true) → Whole (recordFor p l x)
+      each x k =
+          record {
+            request-length = eqb-true (length (x .request)) requestBytes (passes-unless _ _ (none-first _ _ (k .0 .0)));
+            marks-fit = lt-of-lt-of-le (bits-below (p .rules) (λ i. lies p l i x)) (pow-mono few);
+          }
