@@ -29,7 +29,7 @@ use Rattle.register.specs.Run.{entriesOf, numbered}
 use Rattle.register.specs.Register.{heldOf, liesInSome, registerFault, granted, registerStep}
 use Rattle.register.specs.Image.{recordFor, recordsFor, registerImage}
 use Rattle.register.specs.Demand3.{answers, states, Kept, Demand3}
-use Rattle.register.proofs.Step.{fault-same, grant-same, table-same}
+use Rattle.register.proofs.Step.{records-held, fault-same, grant-same, table-same}
 use Rattle.register.proofs.GoodRecords.{Granted, records-good, records-whole}
 use Rattle.register.proofs.Nobody.{Positive, nobody-ever}
 
@@ -57,7 +57,7 @@ module _ (policy : List ℕ) (accepted : policyFault policy ≡ none) (b : ℕ) 
   unfolding registerImage
   image-passes l f = passes policy b (recordsFor p l) some-block few-blocks (records-whole p few l (f .0)) (f .1) (records-good p few l (f .0))
 
-  image-records : (l : List Request) → Fine l → recordsOf (image l) ≡ recordsFor p l
+  pub image-records : (l : List Request) → Fine l → recordsOf (image l) ≡ recordsFor p l
   unfolding registerImage
   image-records l f = reads-back (stamp policy) b (recordsFor p l) few-blocks (records-whole p few l (f .0)) (f .1)
 
@@ -66,11 +66,11 @@ module _ (policy : List ℕ) (accepted : policyFault policy ≡ none) (b : ℕ) 
   image-size l f = image-blocks (stamp policy) b (recordsFor p l) (records-whole p few l (f .0))
 
   -- the register's outcome, with the image that it prescribes for its state
-  imaged : Outcome (List Request) → Outcome (List ℕ)
+  unfoldable pub imaged : Outcome (List Request) → Outcome (List ℕ)
   imaged o = record { answer = o .answer; state = image (o .state) }
 
   -- one request: `decide` on the image of a list says what the register says, and leaves the image of the register's next list
-  decide-step : (l : List Request) → Fine l → (q : List ℕ) → decide policy (image l) q ≡ imaged (registerStep p (capacity b) l q)
+  pub decide-step : (l : List Request) → Fine l → (q : List ℕ) → decide policy (image l) q ≡ imaged (registerStep p (capacity b) l q)
   unfolding decide decideFault imaged registerStep granted registerImage refusing judge
   decide-step l f q =
       rw (accepted, image-passes l f, image-size l f, image-records l f, none-orElse, none-orElse, ← fault-same p l q (capacity b))
@@ -90,8 +90,8 @@ module _ (policy : List ℕ) (accepted : policyFault policy ≡ none) (b : ℕ) 
           clear = none-second (requestFault q) _ (sym (fault-same p l q (capacity b)) ∙ e)
 
   -- what decisions keep, one request further
-  fine-step : (l : List Request) → Fine l → (q : List ℕ) → Fine (registerStep p (capacity b) l q .state)
-  unfolding registerStep granted refusing registerFault heldOf recordsFor
+  pub fine-step : (l : List Request) → Fine l → (q : List ℕ) → Fine (registerStep p (capacity b) l q .state)
+  unfolding registerStep granted refusing registerFault
   fine-step l f q = go (registerFault p (capacity b) l q) refl
     where
       go : (o : Option Refusal) → registerFault p (capacity b) l q ≡ o → Fine (refusing o l (granted p l q) .state)
@@ -102,7 +102,7 @@ module _ (policy : List ℕ) (accepted : policyFault policy ≡ none) (b : ℕ) 
           held = leb-true (heldOf p (l ++ (q ∷ []))) (capacity b) (passes-unless _ _ (none-second _ _ (none-second (requestFault q) _ e)))
 
           fits : length (recordsFor p (l ++ (q ∷ []))) ≤ capacity b
-          fits = rw (length-map (keep (liesInSome p (l ++ (q ∷ []))) (entriesOf (l ++ (q ∷ [])))) (recordFor p (l ++ (q ∷ [])))) held
+          fits = rw (records-held p (l ++ (q ∷ []))) held
 
   -- ---- all requests
 
@@ -125,11 +125,11 @@ module _ (policy : List ℕ) (accepted : policyFault policy ≡ none) (b : ℕ) 
   unfolding recordsFor entriesOf numbered keep
   no-records = refl
 
-  fresh-image : image [] ≡ freshTable policy b
+  pub fresh-image : image [] ≡ freshTable policy b
   unfolding registerImage freshTable
   fresh-image = rw no-records
 
-  fine-start : Fine []
+  pub fine-start : Fine []
   fine-start = (empty, rw no-records (omega arith))
 
 pub demand-3 : Demand3

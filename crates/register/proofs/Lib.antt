@@ -4,3 +4,4 @@ pub mod Step
 pub mod Nobody
 pub mod GoodRecords
 pub mod Demand3
+pub mod Consequences

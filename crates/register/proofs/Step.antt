@@ -13,7 +13,7 @@ use Rattle.words.specs.Lists.{keep, anyOf, anyBelow, nonEmpty, sameList}
 use Rattle.words.specs.First.{_orElse_, unless, first}
 use Rattle.words.specs.Bytes.{bit, bits}
 use Rattle.words.proofs.Every.{Every, every-all, every-weaken, keep-same, map-same, every-keep}
-use Rattle.words.proofs.Keep.{keep-append, keep-keep, keep-map, anyOf-keep, nonEmpty-map, map-map, map-append}
+use Rattle.words.proofs.Keep.{keep-append, keep-keep, keep-map, keep-split, anyOf-keep, nonEmpty-map, map-map, map-append}
 use Rattle.words.proofs.Bits.{bit-bits, bits-same, bits-some, anyBelow-same, anyBelow-at, anyBelow-both}
 use Rattle.words.proofs.First.{first-same}
 use Rattle.format.specs.Answer.{Answer, grant, Refusal, refusal, Outcome, refusing}
@@ -38,6 +38,11 @@ module _ (p : Policy) (l : List Request) where
   pub has-mark : (x : Entry) → hasMark (recordFor p l x) ≡ liesInSome p l x
   unfolding recordFor liesInSome
   has-mark x = bits-some (p .rules) (λ i. lies p l i x)
+
+  -- the image has a record for each entry that is held
+  pub records-held : length (recordsFor p l) ≡ heldOf p l
+  unfolding recordsFor heldOf
+  records-held = length-map (keep (liesInSome p l) (entriesOf l)) (recordFor p l)
 
   -- the records that the image has in the request's run place are the run
   pub past-same : (q : Request) (i : ℕ) → i < p .rules → pastIn p (recordsFor p l) q i ≡ pastRun p l q i
@@ -155,8 +160,7 @@ module _ (p : Policy) (l : List Request) (q : Request) where
 
   -- held
   pub held-same : length (tableAfter p (recordsFor p l) q) ≡ heldOf p (l ++ (q ∷ []))
-  unfolding recordsFor heldOf
-  held-same = ap length table-same ∙ length-map (keep (liesInSome p (l ++ (q ∷ []))) (entriesOf (l ++ (q ∷ [])))) (recordFor p (l ++ (q ∷ [])))
+  held-same = ap length table-same ∙ records-held p (l ++ (q ∷ []))
 
   -- recorded and removed
   recorded-same : length (sweep (recordOf p q opened ∷ [])) ≡ recordedOf p l q
@@ -184,3 +188,32 @@ module _ (p : Policy) (l : List Request) (q : Request) where
   pub fault-same : (room : ℕ) → registerFault p room l q ≡ requestFault q orElse judgeFault p room (recordsFor p l) q
   unfolding registerFault judgeFault
   fault-same room = rw (verdict-same p l q, held-same)
+
+  -- ---- a grant's numbers balance
+
+  -- those that lay in a run still do, or are removed
+  stay-or-go : length (keep (liesInSome p after) (entriesOf l)) + removedOf p l after ≡ heldOf p l
+  unfolding heldOf removedOf
+  stay-or-go =
+      rw (← still, ← keep-keep (liesInSome p l) (λ x. not (liesInSome p after x)) (entriesOf l))
+      (keep-split (liesInSome p after) (keep (liesInSome p l) (entriesOf l)))
+    where
+      still : keep (liesInSome p after) (keep (liesInSome p l) (entriesOf l)) ≡ keep (liesInSome p after) (entriesOf l)
+      still =
+          keep-keep (liesInSome p l) (liesInSome p after) (entriesOf l)
+          ∙ keep-same _ _ (every-weaken {P = λ x. x .at < length l} {Q = λ x. liesInSome p l x && liesInSome p after x ≡ liesInSome p after x} lies-shrink (entries-before l))
+
+  -- held now are those that stay, and the new one if it is recorded
+  held-now : heldOf p after ≡ length (keep (liesInSome p after) (entriesOf l)) + recordedOf p l q
+  unfolding heldOf recordedOf keep after
+  held-now =
+      rw (entries-snoc l q, keep-append (liesInSome p after) (entriesOf l) (next l q ∷ []), length-append)
+      (ap (λ (n : ℕ). length (keep (liesInSome p after) (entriesOf l)) + n) (go (liesInSome p after (next l q))))
+    where
+      go : (b : Bool) → length (cond b (next l q ∷ []) []) ≡ cond b 1 0
+      go true = refl
+      go false = refl
+
+  pub balance : heldOf p l + recordedOf p l q ≡ removedOf p l (l ++ (q ∷ [])) + heldOf p (l ++ (q ∷ []))
+  unfolding after
+  balance = omega (arith, stay-or-go, held-now)

@@ -3,3 +3,4 @@ pub mod Register
 pub mod Image
 pub mod Reached
 pub mod Demand3
+pub mod Consequences
