@@ -5,3 +5,4 @@ pub mod Nobody
 pub mod GoodRecords
 pub mod Demand3
 pub mod Consequences
+pub mod Sample
