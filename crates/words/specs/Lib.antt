@@ -2,3 +2,4 @@ pub mod Lists
 pub mod First
 pub mod Bytes
 pub mod Sums
+pub mod Code
