@@ -1,1 +1,2 @@
-// The images of document 01, policy, table, record and request, and their checks. So far specs/ and proofs/ alone.
+// The images of document 01, policy, table, record and request, and their checks.
+pub mod answer;
