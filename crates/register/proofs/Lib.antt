@@ -5,4 +5,5 @@ pub mod Nobody
 pub mod GoodRecords
 pub mod Demand3
 pub mod Consequences
+pub mod Adequacy
 pub mod Sample
