@@ -5,3 +5,4 @@ pub mod TableImage
 pub mod AcceptedBlock
 pub mod Accepted
 pub mod AcceptedPolicy
+pub mod Examples

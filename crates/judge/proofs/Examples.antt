@@ -1,0 +1,388 @@
+-- Worked examples of the judge: the tally, the verdict of steps 1 to 3, the new table of steps 4 and 5.
+-- Assumes nothing.
+use Prim.Native.Nat.{ℕ}
+use mathlib.Core.Path.{_≡_, refl}
+use mathlib.Core.Bool.{Bool, true, false}
+use mathlib.Core.List.{List, [], _∷_, _++_, map, flatten}
+use mathlib.Core.Option.{Option, none, some}
+use lib.ListN.{length, getD, replicate}
+use Rattle.words.specs.Lists.{keep, anyOf, allBelow, anyBelow, sumBelow, tab, sameList}
+use Rattle.words.specs.First.{_orElse_, unless, first}
+use Rattle.words.specs.Bytes.{bytes2, bytes4, zeros, zeroFrom, bit, bits}
+use Rattle.words.specs.Sums.{sums, addWords, addWord, words}
+use Rattle.format.specs.Answer.{Refusal, refusal, Answer, grant, refuse, Outcome, refusing}
+use Rattle.format.specs.Block.{goodLength, checkOf, goodCheck, sumBytes, sealed}
+use Rattle.format.specs.Request.{Request, hasRole, usedLevel, depthOf, requestFault}
+use Rattle.format.specs.Rule.{Rule, Level, Exclusion, Privilege, Step}
+use Rattle.format.specs.Fits.{fits, levelFits, place, placeValue, samePlace}
+use Rattle.format.specs.Policy.{Policy, Permission, goodPermission, goodPermissionBytes, permissionFault, goodPolicyHeader, policyBlockFault}
+use Rattle.format.specs.Policy.{policyFault, ruleCount, permissionsAt, policyOf, stamp}
+use Rattle.format.specs.Table.{Record, goodRecord, recordAt, gap, goodTableHeader, goodStamp, tableBlockFault, tableLengthFault, tableFault}
+use Rattle.format.specs.Table.{recordsOf, blockImage, tableImage, freshTable}
+use Rattle.judge.specs.Tally.{sameUser, does, roleTally, timesListed, timesDone, repeats, privilegeTally, tally, reached, exclusionNumber}
+use Rattle.judge.specs.Tally.{counted}
+use Rattle.judge.specs.Verdict.{grants, permitted, isFirst, isLast, judges, failing, verdict}
+use Rattle.judge.specs.NewTable.{standsIn, openIn, pastIn, ends, gives, recordOf, cleared, sweep, newTable, grantOf, tableAfter, judgeFault}
+use Rattle.judge.specs.NewTable.{judge}
+use Rattle.judge.specs.Decide.{decideFault, decide}
+
+-- what these examples compute with
+opened : Unit {0}
+unfolding keep anyOf allBelow anyBelow sumBelow tab sameList _orElse_ unless first bit bits refusing hasRole usedLevel depthOf fits levelFits place
+    placeValue samePlace sameUser does roleTally timesListed timesDone repeats privilegeTally tally reached exclusionNumber counted grants permitted
+    isFirst isLast judges failing verdict standsIn openIn pastIn ends gives recordOf cleared sweep newTable grantOf tableAfter judgeFault judge
+opened = tt
+
+-- ---- the pieces: the depots (type 1), jobs (type 2), operations and rules of document 01's trial run
+
+-- a request: user, roles, operation, target, context
+abbrev request : ℕ → ℕ → ℕ → ℕ → List ℕ → Request
+request u k o t c = bytes4 u ++ bytes4 k ++ bytes2 o ++ bytes2 t ++ c
+
+abbrev business : List ℕ
+business = zeros 16
+
+abbrev depot : ℕ → List ℕ
+depot d = bytes2 1 ++ bytes2 d ++ zeros 12
+
+abbrev job : ℕ → ℕ → List ℕ
+job d j = bytes2 1 ++ bytes2 d ++ bytes2 2 ++ bytes2 j ++ zeros 8
+
+-- "Operations: 1 adjust, 2 check, 4 close, 5 begin count, 6 end count", each by a user in the role that may, on target 1
+abbrev adjust : ℕ → List ℕ → Request
+adjust u c = request u 1 1 1 c
+
+abbrev check : ℕ → List ℕ → Request
+check u c = request u 2 2 1 c
+
+abbrev close : ℕ → List ℕ → Request
+close u c = request u 2 4 1 c
+
+abbrev begin : ℕ → List ℕ → Request
+begin u c = request u 4 5 1 c
+
+abbrev end : ℕ → List ℕ → Request
+end u c = request u 4 6 1 c
+
+abbrev privilege : ℕ → ℕ → Privilege
+privilege o t = record { operation = o; target = t }
+
+-- an exclusion: kind, m, members; one of roles; one of operations on target 1
+abbrev exclusion : ℕ → ℕ → List Privilege → Exclusion
+exclusion k m ps = record { kind = k; m = m; n = length ps; pad = 0; member = λ i. getD ps i (privilege 0 0) }
+
+abbrev roles : ℕ → List ℕ → Exclusion
+roles m ks = exclusion 1 m (map (λ k. privilege k 0) ks)
+
+abbrev operations : ℕ → List ℕ → Exclusion
+operations m os = exclusion 2 m (map (λ o. privilege o 1) os)
+
+abbrev every : ℕ → Level
+every t = record { type = t; mark = 2; pad = 0; value = 0; tail = 0 }
+
+abbrev each : ℕ → Level
+each t = record { type = t; mark = 3; pad = 0; value = 0; tail = 0 }
+
+abbrev step : ℕ → Step
+step o = record { flag = 1; privilege = privilege o 1 }
+
+abbrev unset : Step
+unset = record { flag = 0; privilege = privilege 0 0 }
+
+-- a rule: levels, first and last step, exclusions
+abbrev rule : List Level → Step → Step → List Exclusion → Rule
+rule ls f l xs =
+    record {
+      depth = length ls;
+      exclusions = length xs;
+      level = λ i. getD ls i (every 0);
+      firstStep = f;
+      lastStep = l;
+      exclusion = λ e. getD xs e (roles 0 []);
+    }
+
+-- role k may do operation o, on target 1
+abbrev permission : ℕ → ℕ → Permission
+permission k o = record { role = k; operation = o; target = 1; pad = 0 }
+
+-- a policy of these rules, with the trial run's permissions and one more, that role 3 may end a count
+abbrev policy : List Rule → Policy
+policy rs =
+    record {
+      rules = length rs;
+      rule = λ i. getD rs i (rule [] unset unset []);
+      permissions = permission 1 1 ∷ permission 2 2 ∷ permission 2 4 ∷ permission 3 5 ∷ permission 3 6 ∷ [];
+    }
+
+-- "Rule 1: depot every, job each; last step 4; exclusion 1 privileges m 2 of 1, 2, 2; exclusion 2 roles m 2 of 1, 2.
+-- Rule 2: depot each; first 5, last 6; roles m 2 of 1, 3."
+abbrev trial : Policy
+trial =
+    policy
+    (rule (every 1 ∷ each 2 ∷ []) unset (step 4) (operations 2 (1 ∷ 2 ∷ 2 ∷ []) ∷ roles 2 (1 ∷ 2 ∷ []) ∷ [])
+    ∷ rule (each 1 ∷ []) (step 5) (step 6) (roles 2 (1 ∷ 3 ∷ []) ∷ [])
+    ∷ [])
+
+-- a record: a request and its marks, 1 for rule 1, 2 for rule 2, 3 for both
+abbrev kept : ℕ → Request → Record
+kept marks q = record { request = q; marks = marks }
+
+-- ---- the tally
+
+-- "how many member roles appear among all their active roles": of 1, 2, over requests with these roles: none, {1}, {1} twice, {1} and {2}, {1,2}, {3}
+pub roles-counted :
+    map (λ ks. tally (roles 2 (1 ∷ 2 ∷ [])) (map (λ k. request 7 k 1 1 business) ks))
+    ([] ∷ (1 ∷ []) ∷ (1 ∷ 1 ∷ []) ∷ (1 ∷ 2 ∷ []) ∷ (3 ∷ []) ∷ (4 ∷ []) ∷ [])
+    ≡ 0 ∷ 1 ∷ 1 ∷ 2 ∷ 2 ∷ 0 ∷ []
+unfolding opened
+roles-counted = refl
+
+-- "each different member counts min(times listed, times done), summed": of 1, 2, 2. Listed once and done twice counts 1; listed twice and done once
+-- 1, done twice 2, done three times 2; all together 3; and 3 is not listed
+pub privileges-counted :
+    map (λ os. tally (operations 2 (1 ∷ 2 ∷ 2 ∷ [])) (map (λ o. request 7 1 o 1 business) os))
+    ([] ∷ (1 ∷ []) ∷ (1 ∷ 1 ∷ []) ∷ (2 ∷ []) ∷ (2 ∷ 2 ∷ []) ∷ (2 ∷ 2 ∷ 2 ∷ []) ∷ (2 ∷ 1 ∷ 2 ∷ 1 ∷ []) ∷ (3 ∷ 3 ∷ []) ∷ [])
+    ≡ 0 ∷ 1 ∷ 1 ∷ 1 ∷ 2 ∷ 2 ∷ 3 ∷ 0 ∷ []
+unfolding opened
+privileges-counted = refl
+
+-- a privilege is an operation and a target: 1 on 1 and 1 on 2 are two, and 1 on 3 is neither
+pub targets-counted :
+    map (λ ts. tally (exclusion 2 2 (privilege 1 1 ∷ privilege 1 2 ∷ [])) (map (λ t. request 7 1 1 t business) ts))
+    ((1 ∷ 1 ∷ []) ∷ (1 ∷ 2 ∷ []) ∷ (3 ∷ []) ∷ [])
+    ≡ 1 ∷ 2 ∷ 0 ∷ []
+unfolding opened
+targets-counted = refl
+
+-- "At m or more": m is 2, the tally 1, 2 and 3
+pub reached-at-m :
+    map (λ os. reached (operations 2 (1 ∷ 2 ∷ 2 ∷ [])) (map (λ o. request 7 1 o 1 business) os)) ((1 ∷ []) ∷ (1 ∷ 2 ∷ []) ∷ (1 ∷ 2 ∷ 2 ∷ []) ∷ [])
+    ≡ false ∷ true ∷ true ∷ []
+unfolding opened
+reached-at-m = refl
+
+-- "over the same user's records .. plus this request": users 8 and 263 are others than 7
+pub counted-with-it :
+    counted (check 7 business) (adjust 8 business ∷ adjust 7 business ∷ adjust 263 business ∷ close 7 business ∷ [])
+    ≡ adjust 7 business ∷ close 7 business ∷ check 7 business ∷ []
+unfolding opened
+counted-with-it = refl
+
+-- ---- steps 1 to 3. The third argument says whether the run places are open, the fourth has each rule's past
+
+-- "1. Some active role has the permission for operation and target": role 2 may check; {1,2} may; {1} may not; and on target 2 nobody may
+pub permitted-by-role :
+    map (permitted trial) (request 7 2 2 1 business ∷ request 7 3 2 1 business ∷ request 7 1 2 1 business ∷ request 7 2 2 2 business ∷ [])
+    ≡ true ∷ true ∷ false ∷ false ∷ []
+unfolding opened
+permitted-by-role = refl
+
+-- "8 refuse 32 1 2": roles {1,2} at once reach m alone. 31 goes before: nobody may do 3
+pub alone :
+    map (λ o. verdict trial (request 9 3 o 1 (job 5 90)) (λ i. false) (λ i. [])) (1 ∷ 3 ∷ []) ≡ some (refusal 32 1 2) ∷ some (refusal 31 0 0) ∷ []
+unfolding opened
+alone = refl
+
+-- "2. A rule that fits judges if it has no first step, or this is its first step, or its run place has a marked record. Other rules are silent.":
+-- rule 2 on {1,3}, who adjusts with its run place shut, adjusts with it open, begins with it shut, and adjusts with it open where it does not fit
+pub silent-or-not :
+    (verdict trial (request 10 5 1 1 (depot 5)) (λ i. false) (λ i. [])
+    ∷ verdict trial (request 10 5 1 1 (depot 5)) (λ i. true) (λ i. [])
+    ∷ verdict trial (request 10 5 5 1 (depot 5)) (λ i. false) (λ i. [])
+    ∷ verdict trial (request 10 5 1 1 business) (λ i. true) (λ i. [])
+    ∷ [])
+    ≡ none ∷ some (refusal 32 2 1) ∷ some (refusal 32 2 1) ∷ none ∷ []
+unfolding opened
+silent-or-not = refl
+
+-- a step is an operation and a target: 5 on target 2 does not begin, 4 on target 2 does not close
+pub steps-by-target :
+    (map (λ t. isFirst (trial .rule 1) (request 10 4 5 t (depot 5))) (1 ∷ 2 ∷ [])
+    ∷ map (λ t. isLast (trial .rule 0) (request 8 2 4 t (job 5 90))) (1 ∷ 2 ∷ [])
+    ∷ [])
+    ≡ (true ∷ false ∷ []) ∷ (true ∷ false ∷ []) ∷ []
+unfolding opened
+steps-by-target = refl
+
+-- an unset step is no step: 0 on 0 is not rule 1's first, nor is any other
+pub steps-unset : map (λ o. isFirst (trial .rule 0) (request 7 1 o o (job 5 90))) (0 ∷ 1 ∷ []) ≡ false ∷ false ∷ []
+unfolding opened
+steps-unset = refl
+
+-- "The first failing exclusion ends the search through rules and exclusions", with "rule, exclusion": rule a fails in its second, rule b in both, or,
+-- with nothing past, in its first alone. In turn: a, b; b, a; a, b with nothing past; a rule that does not fit, a
+pub first-failing :
+    (let a = rule [] unset unset (roles 2 (3 ∷ 4 ∷ []) ∷ operations 2 (1 ∷ 2 ∷ []) ∷ []) in
+    let b = rule [] unset unset (roles 2 (1 ∷ 2 ∷ []) ∷ operations 2 (1 ∷ 2 ∷ []) ∷ []) in
+    (verdict (policy (a ∷ b ∷ [])) (request 7 3 1 1 business) (λ i. false) (λ i. check 7 business ∷ [])
+    ∷ verdict (policy (b ∷ a ∷ [])) (request 7 3 1 1 business) (λ i. false) (λ i. check 7 business ∷ [])
+    ∷ verdict (policy (a ∷ b ∷ [])) (request 7 3 1 1 business) (λ i. false) (λ i. [])
+    ∷ verdict (policy (rule (each 1 ∷ []) unset unset [] ∷ a ∷ [])) (request 7 3 1 1 business) (λ i. false) (λ i. check 7 business ∷ [])
+    ∷ []))
+    ≡ some (refusal 33 1 2) ∷ some (refusal 32 1 1) ∷ some (refusal 32 2 1) ∷ some (refusal 33 2 2) ∷ []
+unfolding opened
+first-failing = refl
+
+-- "marked for that rule": 7 adjusted this job, which rule 1 counts if its past has it, and not if only rule 2's has
+pub past-by-rule :
+    map (λ pasts. verdict trial (check 7 (job 5 90)) (λ i. false) (λ i. getD pasts i []))
+    (((adjust 7 (job 5 90) ∷ []) ∷ [] ∷ []) ∷ ([] ∷ (adjust 7 (job 5 90) ∷ []) ∷ []) ∷ [])
+    ≡ some (refusal 33 1 1) ∷ none ∷ []
+unfolding opened
+past-by-rule = refl
+
+-- a last step is counted against its own doer: 7, who adjusted, may not close; 8 may
+pub last-step-counted :
+    (let p = policy (rule [] unset (step 4) (operations 2 (1 ∷ 4 ∷ []) ∷ []) ∷ []) in
+    map (λ u. verdict p (close u business) (λ i. true) (λ i. adjust 7 business ∷ [])) (7 ∷ 8 ∷ []))
+    ≡ some (refusal 33 1 1) ∷ none ∷ []
+unfolding opened
+last-step-counted = refl
+
+-- ---- the records that are counted, read off a table
+
+-- "records marked for that rule in that run place": 7 adjusted job 90 at depot 5, and checks it there; at depot 6 ("every"); checks job 91 ("each");
+-- 8 checks job 90
+pub counted-in-its-place :
+    map (λ q. judge trial 15 (kept 1 (adjust 7 (job 5 90)) ∷ []) q .answer)
+    (check 7 (job 5 90) ∷ check 7 (job 6 90) ∷ check 7 (job 5 91) ∷ check 8 (job 5 90) ∷ [])
+    ≡ refuse (refusal 33 1 1) ∷ refuse (refusal 33 1 1) ∷ grant 1 0 2 ∷ grant 1 0 2 ∷ []
+unfolding opened
+counted-in-its-place = refl
+
+-- the same adjustment marked for rule 2 alone, as when its job was closed since: rule 1 does not count it
+pub counted-if-marked : judge trial 15 (kept 2 (adjust 7 (job 5 90)) ∷ []) (check 7 (job 5 90)) .answer ≡ grant 1 0 2
+unfolding opened
+counted-if-marked = refl
+
+-- rule 2 judges where its run place is open: 10, who began the count of depot 5, adjusts at depot 5 and at depot 6
+pub open-in-its-place :
+    map (λ d. judge trial 15 (kept 2 (begin 10 (depot 5)) ∷ []) (adjust 10 (job d 92)) .answer) (5 ∷ 6 ∷ [])
+    ≡ refuse (refusal 32 2 1) ∷ grant 1 0 2 ∷ []
+unfolding opened
+open-in-its-place = refl
+
+-- ---- step 4, the new table
+
+-- "The request gets the marks of the other judging rules", and goes to the end: both rules at depot 5, rule 1 at depot 6, none for the whole business
+pub marks-given :
+    map (λ c. judge trial 15 (kept 2 (begin 10 (depot 5)) ∷ []) (adjust 11 c)) (job 5 92 ∷ job 6 92 ∷ business ∷ [])
+    ≡ record { answer = grant 1 0 2; state = kept 2 (begin 10 (depot 5)) ∷ kept 3 (adjust 11 (job 5 92)) ∷ [] }
+    ∷ record { answer = grant 1 0 2; state = kept 2 (begin 10 (depot 5)) ∷ kept 1 (adjust 11 (job 6 92)) ∷ [] }
+    ∷ record { answer = grant 0 0 1; state = kept 2 (begin 10 (depot 5)) ∷ [] }
+    ∷ []
+unfolding opened
+marks-given = refl
+
+-- trap "clearing request 14's record at line 15 (rule 2 counts it)": a last step of rule 1 clears no mark of rule 2; it gets rule 2's mark, not rule 1's
+pub close-under-a-count :
+    judge trial 15 (kept 2 (begin 10 (depot 5)) ∷ kept 3 (adjust 11 (job 5 92)) ∷ []) (close 12 (job 5 92))
+    ≡ record {
+      answer = grant 1 0 3;
+      state = kept 2 (begin 10 (depot 5)) ∷ kept 2 (adjust 11 (job 5 92)) ∷ kept 2 (close 12 (job 5 92)) ∷ [];
+    }
+unfolding opened
+close-under-a-count = refl
+
+-- "clear its mark in that run place": closing job 90 leaves jobs 92 and 91, in their order. "Records with no mark go": job 90's at either depot
+pub close-one-job :
+    judge trial 15
+    (kept 1 (adjust 7 (job 5 90)) ∷ kept 1 (adjust 8 (job 5 92)) ∷ kept 1 (check 9 (job 6 90)) ∷ kept 1 (adjust 8 (job 5 91)) ∷ [])
+    (close 12 (job 5 90))
+    ≡ record { answer = grant 0 2 2; state = kept 1 (adjust 8 (job 5 92)) ∷ kept 1 (adjust 8 (job 5 91)) ∷ [] }
+unfolding opened
+close-one-job = refl
+
+-- a last step of rule 2 clears rule 2's marks at depot 5, not those at depot 6, and no mark of rule 1
+pub end-one-count :
+    judge trial 15
+    (kept 2 (begin 10 (depot 5)) ∷ kept 2 (begin 10 (depot 6)) ∷ kept 3 (adjust 11 (job 5 92)) ∷ kept 3 (adjust 11 (job 6 93)) ∷ [])
+    (end 13 (depot 5))
+    ≡ record { answer = grant 0 1 3; state = kept 2 (begin 10 (depot 6)) ∷ kept 1 (adjust 11 (job 5 92)) ∷ kept 3 (adjust 11 (job 6 93)) ∷ [] }
+unfolding opened
+end-one-count = refl
+
+-- a last step of rule 2 in a job is recorded for rule 1
+pub end-in-a-job :
+    judge trial 15 (kept 2 (begin 10 (depot 5)) ∷ []) (end 13 (job 5 92)) ≡ record { answer = grant 1 1 1; state = kept 1 (end 13 (job 5 92)) ∷ [] }
+unfolding opened
+end-in-a-job = refl
+
+-- the last step of a silent rule is none: no count of depot 5 was begun
+pub end-of-no-count :
+    judge trial 15 (kept 2 (begin 10 (depot 6)) ∷ []) (end 13 (depot 5)) ≡ record { answer = grant 0 0 1; state = kept 2 (begin 10 (depot 6)) ∷ [] }
+unfolding opened
+end-of-no-count = refl
+
+-- trap "opening a run by a refused first step": {1,3} may not begin, so the table stays empty, and 10 adjusts at the depot unjudged and unrecorded
+pub refused-first-step :
+    (let o = judge trial 15 [] (request 10 5 5 1 (depot 5)) in (o ∷ judge trial 15 (o .state) (adjust 10 (depot 5)) ∷ []))
+    ≡ record { answer = refuse (refusal 32 2 1); state = [] } ∷ record { answer = grant 0 0 0; state = [] } ∷ []
+unfolding opened
+refused-first-step = refl
+
+-- the same with a first step that is granted: the run is open, and 10 may not adjust
+pub granted-first-step :
+    (let o = judge trial 15 [] (begin 10 (depot 5)) in (o .answer ∷ judge trial 15 (o .state) (adjust 10 (depot 5)) .answer ∷ []))
+    ≡ grant 1 0 1 ∷ refuse (refusal 32 2 1) ∷ []
+unfolding opened
+granted-first-step = refl
+
+-- ---- step 5, with room for two records
+
+-- a full table: 7 adjusted job 90, 10 began the count of depot 5
+abbrev full : List Record
+full = kept 1 (adjust 7 (job 5 90)) ∷ kept 2 (begin 10 (depot 5)) ∷ []
+
+-- trap "testing fullness before clearing": closing job 90 removes a record and is recorded for rule 2
+pub full-and-cleared :
+    judge trial 2 full (close 12 (job 5 90))
+    ≡ record { answer = grant 1 1 2; state = kept 2 (begin 10 (depot 5)) ∷ kept 2 (close 12 (job 5 90)) ∷ [] }
+unfolding opened
+full-and-cleared = refl
+
+-- "5. If that exceeds the table, 34, and the old table stays": closing job 91 removes none and would be recorded; with room for three it is
+pub full-and-not-cleared :
+    (judge trial 2 full (close 12 (job 5 91)) ∷ judge trial 3 full (close 12 (job 5 91)) ∷ [])
+    ≡ record { answer = refuse (refusal 34 0 0); state = full }
+    ∷ record { answer = grant 1 0 3; state = full ++ (kept 2 (close 12 (job 5 91)) ∷ []) }
+    ∷ []
+unfolding opened
+full-and-not-cleared = refl
+
+-- "an unmarked one is granted": a check for the whole business
+pub full-and-unmarked : judge trial 2 full (check 12 business) ≡ record { answer = grant 0 0 2; state = full }
+unfolding opened
+full-and-unmarked = refl
+
+-- the judge's numbers "in its own order", each leaving the table as it was: 31; 33 and 32 before 34; 34
+pub refusals-keep-the-table :
+    map (judge trial 2 full) (request 7 1 2 1 (job 5 90) ∷ check 7 (job 5 90) ∷ adjust 10 (job 5 91) ∷ adjust 11 (job 5 91) ∷ [])
+    ≡ map (λ r. record { answer = refuse r; state = full }) (refusal 31 0 0 ∷ refusal 33 1 1 ∷ refusal 32 2 1 ∷ refusal 34 0 0 ∷ [])
+unfolding opened
+refusals-keep-the-table = refl
+
+-- ---- decide, on bytes
+
+-- what these two compute with besides
+openedBytes : Unit {0}
+unfolding flatten zeroFrom sums addWords addWord words goodLength checkOf goodCheck sumBytes sealed requestFault goodPermission goodPermissionBytes
+    permissionFault goodPolicyHeader policyBlockFault policyFault ruleCount permissionsAt policyOf stamp goodRecord recordAt gap goodTableHeader
+    goodStamp tableBlockFault tableLengthFault tableFault recordsOf blockImage tableImage freshTable decideFault decide
+openedBytes = tt
+
+-- a policy of no rule, where nobody may do anything: a permission block with no entry
+abbrev nobody : List ℕ
+nobody = sealed (bytes4 3 ++ bytes2 0 ++ bytes2 1 ++ zeros 496)
+
+-- "Rows are tested from top to bottom": of three empty inputs the policy gets its number, then the table, then the request
+pub rows-in-order :
+    (decide [] [] [] .answer ∷ decide nobody [] [] .answer ∷ decide nobody (freshTable nobody 1) [] .answer ∷ [])
+    ≡ refuse (refusal 1 0 0) ∷ refuse (refusal 11 0 0) ∷ refuse (refusal 21 0 0) ∷ []
+unfolding opened openedBytes
+rows-in-order = refl
+
+-- "a refusal alters nothing lent": a table of two bytes stays as it is
+pub refusal-keeps-the-bytes : decide [] (7 ∷ 8 ∷ []) [] ≡ record { answer = refuse (refusal 1 0 0); state = 7 ∷ 8 ∷ [] }
+unfolding opened openedBytes
+refusal-keeps-the-bytes = refl
