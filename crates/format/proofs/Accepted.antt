@@ -27,7 +27,8 @@ use Rattle.format.specs.Table.{count, recordAt, gap, goodRecord, tableBl
 use Rattle.format.proofs.RecordImage.{Whole}
 use Rattle.format.proofs.TableImage.{chunk}
 use Rattle.format.proofs.BlockImage.{recordsIn}
-use Rattle.format.proofs.AcceptedBlock.{Accepted, accepted-block, record-whole, image-again}
+use Rattle.format.proofs.BlockRecords.{record-whole}
+use Rattle.format.proofs.AcceptedBlock.{Accepted, accepted-block, image-again}
 
 -- the length of a good image
 pub record Blocked (most : ℕ) (s : List ℕ) : Type 0 where
@@ -128,7 +129,7 @@ module _ (policy s : List ℕ) (accepted : tableFault policy s ≡ none) where
               (λ k lo hi. every-tab (recordAt (block s k)) 0 (count (block s k)) (λ i lo′ hi′. accepted-at k (omega arith) .records i (omega arith))));
           whole = every-flatten (every-tab (λ k. recordsIn (block s k)) 0 (blocks s)
               (λ k lo hi. every-tab (recordAt (block s k)) 0 (count (block s k))
-              (λ i lo′ hi′. record-whole (block s k) (block-bytes k) (block-sized k (omega arith)) (accepted-at k (omega arith) .header .few) i (omega arith))));
+              (λ i lo′ hi′. record-whole (block s k) (block-bytes k) (block-sized k (omega arith)) i (omega (arith, accepted-at k (omega arith) .header .few)))));
           fit = length-packed blockRecords (λ k. recordsIn (block s k)) 0 (blocks s) packed;
         }
 

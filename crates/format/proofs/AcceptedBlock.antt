@@ -4,17 +4,16 @@ use Prim.Native.Nat.{ℕ, _+_, _-_, _*_, _≤_, _<_}
 use native.Mathlib.Omega.{arith}
 use mathlib.Core.Path.{_≡_, sym, ap, _∙_}
 use mathlib.Core.Bool.{Bool, true, false, not, _&&_}
-use mathlib.Core.List.{List, flatten}
+use mathlib.Core.List.{List}
 use mathlib.Core.Option.{Option, none}
-use lib.ListN.{length, take, drop, length-drop}
-use lib.Seq.{drop-drop, length-take-le}
+use lib.ListN.{length, take}
 use lib.Dec.{eqb, leb}
 use borrow.Author.Tests.{eqb-true, leb-true, not-true}
 use Rattle.words.specs.First.{_orElse_, unless, first}
-use Rattle.words.specs.Bytes.{u32At, bytes2, bytes4, zeros, part, zeroFrom}
+use Rattle.words.specs.Bytes.{u32At, bytes2, bytes4, zeros, zeroFrom}
 use Rattle.words.specs.Sums.{Sums}
-use Rattle.words.proofs.Every.{Every, every-take, every-drop}
-use Rattle.words.proofs.Lists.{length-tab, tab-cong, map-tab, flatten-parts, front-grows}
+use Rattle.words.proofs.Every.{Every}
+use Rattle.words.proofs.Lists.{length-tab, front-grows}
 use Rattle.words.proofs.Bytes.{Byte, bytes2-u16At, bytes4-u32At, read-zeros}
 use Rattle.words.proofs.First.{passes-unless, none-first, none-second, none-at}
 use Rattle.words.proofs.Tests.{both-first, both-second}
@@ -22,10 +21,10 @@ use Rattle.format.specs.Answer.{Refusal, refusal}
 use Rattle.format.specs.Layout.{blockBytes, checkAt, tableKind, recordBytes, recordsAt, blockRecords}
 use Rattle.format.specs.Block.{blocks, block, kind, number, total, goodCheck, sealed}
 use Rattle.format.specs.Policy.{Policy}
-use Rattle.format.specs.Table.{count, recordBytesAt, recordAt, recordImage, gap, goodTableHeader, goodStamp, goodRecord, tableBlockFault, blockImage}
+use Rattle.format.specs.Table.{count, recordAt, gap, goodTableHeader, goodStamp, goodRecord, tableBlockFault, blockImage}
 use Rattle.format.proofs.BlockImage.{recordsIn, header, body, shape}
 use Rattle.format.proofs.Check.{sealed-again}
-use Rattle.format.proofs.RecordImage.{Whole, images, image-of-bytes, whole-of-bytes}
+use Rattle.format.proofs.BlockRecords.{images-again}
 
 -- ---- the check's findings
 
@@ -114,27 +113,6 @@ accepted-block p t s k h =
 -- ---- the block is an image
 
 module _ (B : List ℕ) (bytes : Every Byte B) (sized : length B ≡ blockBytes) (few : count B ≤ blockRecords) where
-  length-record : (i : ℕ) → i < count B → length (recordBytesAt B i) ≡ recordBytes
-  length-record i h = length-take-le recordBytes (drop (recordsAt + recordBytes * i) B) (rw length-drop (omega arith))
-
-  bytes-record : (i : ℕ) → Every Byte (recordBytesAt B i)
-  bytes-record i = every-take recordBytes (every-drop (recordsAt + recordBytes * i) bytes)
-
-  pub record-again : (i : ℕ) → i < count B → recordImage (recordAt B i) ≡ recordBytesAt B i
-  unfolding recordAt
-  record-again i h = image-of-bytes (recordBytesAt B i) (bytes-record i) (length-record i h)
-
-  pub record-whole : (i : ℕ) → i < count B → Whole (recordAt B i)
-  unfolding recordAt
-  record-whole i h = whole-of-bytes (recordBytesAt B i) (bytes-record i) (length-record i h)
-
-  images-again : images (recordsIn B) ≡ part B recordsAt (recordBytes * count B)
-  images-again =
-      ap flatten (map-tab recordImage (recordAt B) 0 (count B)
-      ∙ tab-cong (λ i. recordImage (recordAt B i)) (λ i. take recordBytes (drop (recordBytes * i) (drop recordsAt B))) 0 (count B)
-      (λ i lo hi. rw drop-drop (record-again i (omega arith))))
-      ∙ flatten-parts recordBytes (drop recordsAt B) 0 (count B)
-
   module _ (t : Sums) (b k : ℕ) (check : goodCheck B ≡ true) (kind-is : kind B ≡ tableKind) (number-is : number B ≡ k) (total-is : total B ≡ b)
       (spare : zeroFrom B 10 6 ≡ true) (stamp-a : u32At B 16 ≡ t .a) (stamp-b : u32At B 20 ≡ t .b)
       (places : zeroFrom B (recordsAt + recordBytes * count B) (recordBytes * (blockRecords - count B)) ≡ true) where
@@ -156,7 +134,7 @@ module _ (B : List ℕ) (bytes : Every Byte B) (sized : length B ≡ blockBytes)
     body-again =
         let e : recordsAt + recordBytes * count B + recordBytes * (blockRecords - count B) ≡ checkAt = omega arith in
         front-grows B (recordsAt + recordBytes * count B) (recordBytes * (blockRecords - count B))
-        (front-grows B recordsAt (recordBytes * count B) header-again images-again)
+        (front-grows B recordsAt (recordBytes * count B) header-again (images-again B bytes sized (count B) few))
         (ap (λ n. zeros (recordBytes * (blockRecords - n))) (length-tab (recordAt B) 0 (count B))
         ∙ read-zeros B (recordsAt + recordBytes * count B) (recordBytes * (blockRecords - count B)) places (omega arith))
         ∙ ap (λ n. take n B) e

@@ -9,3 +9,4 @@ pub mod Table
 pub mod Calls
 pub mod Place
 pub mod Code
+pub mod Writing
