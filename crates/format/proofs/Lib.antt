@@ -6,11 +6,4 @@ pub mod AcceptedBlock
 pub mod Accepted
 pub mod AcceptedPolicy
 pub mod Examples
-pub mod SliceBytes
-pub mod Over
 pub mod BlockRecords
-pub mod Sealing
-pub mod Parts
-pub mod Copied
-pub mod Places
-pub mod TableWritten

@@ -9,4 +9,3 @@ pub mod Table
 pub mod Calls
 pub mod Place
 pub mod Code
-pub mod Writing

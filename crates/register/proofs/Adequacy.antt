@@ -37,11 +37,14 @@ found-kept t k (q ∷ l) = also (own (t e) refl) (every-weaken {P = λ x. (suc k
   where
     e : Entry
     e = record { at = k; request = q }
+
     rest : List Entry
     rest = keep t (numbered (suc k) l)
+
     own : (b : Bool) → t e ≡ b → isIn e (cond b (e ∷ rest) rest) ≡ true → t e ≡ true
     own true s h = s
     own false s h = absurd (false≢true (sym (none-in e (every-weaken {P = λ x. suc k ≤ x .at} {Q = λ x. k < x .at} (λ x j. j) (every-keep _ t (numbered-from (suc k) l)))) ∙ h))
+
     other : (x : Entry) → suc k ≤ x .at → (isIn x rest ≡ true → t x ≡ true) → (b : Bool) → isIn x (cond b (e ∷ rest) rest) ≡ true → t x ≡ true
     other x j ih true h = ih (rw (ne-eqb k (x .at) (λ s. omega arith)) at h)
     other x j ih false h = ih h

@@ -1,0 +1,7 @@
+pub mod SliceBytes
+pub mod Over
+pub mod Sealing
+pub mod Parts
+pub mod Copied
+pub mod Places
+pub mod TableWritten

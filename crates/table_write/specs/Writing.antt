@@ -1,0 +1,37 @@
+-- What writing leaves of a table: bytes replaced from a place on, and what must stand in a table of which some blocks are still to be written.
+-- Assumes nothing.
+use Prim.Native.Nat.{ℕ, _+_, _-_, _*_, _≤_, _<_, min}
+use mathlib.Core.Path.{_≡_}
+use mathlib.Core.List.{List, _++_}
+use lib.ListN.{take, drop}
+use Rattle.words.specs.Bytes.{bytes2, bytes4, zeros}
+use Rattle.words.specs.Sums.{Sums}
+use Rattle.format.specs.Layout.{blockRecords, tableKind}
+use Rattle.format.specs.Block.{blocks, block, sumBytes}
+use Rattle.format.specs.Table.{Record, blockImage}
+use Rattle.format.specs.Place.{recordsHere}
+
+-- the n bytes from a place on replaced by these n
+abbrev pub over : List ℕ → ℕ → ℕ → List ℕ → List ℕ
+over s at n bytes = take at s ++ bytes ++ drop (at + n) s
+
+-- the first 10 bytes of block k of b blocks with n records, and the first 24: "bytes 0-3 kind, .. 4-5 block number from 0, 6-7 blocks in all",
+-- "8-9 records here", "16-23 the stamp, a then b"
+abbrev pub numbersImage : ℕ → ℕ → ℕ → List ℕ
+numbersImage b k n = bytes4 tableKind ++ bytes2 k ++ bytes2 b ++ bytes2 n
+
+abbrev pub headerImage : Sums → ℕ → ℕ → ℕ → List ℕ
+headerImage t b k n = numbersImage b k n ++ zeros 6 ++ sumBytes t
+
+-- how many of n records stand in block k: "Records fill the blocks from the front with no gap."
+abbrev pub countIn : ℕ → ℕ → ℕ
+countIn n k = min blockRecords (n - blockRecords * k)
+
+-- block k of the image of a table of b blocks with these records
+abbrev pub imageBlock : Sums → ℕ → List Record → ℕ → List ℕ
+imageBlock t b rs k = blockImage t b k (take blockRecords (drop (blockRecords * k) rs))
+
+-- outside the blocks from, .., to - 1 the table is the image of the n records that stand in it
+pub record ImageOutside (t : Sums) (s : List ℕ) (n from to : ℕ) : Type 0 where
+  pub before : (k : ℕ) → k < from → block s k ≡ imageBlock t (blocks s) (recordsHere s n) k
+  pub behind : (k : ℕ) → to ≤ k → k < blocks s → block s k ≡ imageBlock t (blocks s) (recordsHere s n) k
