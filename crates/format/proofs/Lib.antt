@@ -1,4 +1,5 @@
 pub mod Check
+pub mod RequestWords
 pub mod RecordImage
 pub mod BlockImage
 pub mod TableImage

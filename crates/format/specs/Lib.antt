@@ -2,6 +2,7 @@ pub mod Answer
 pub mod Layout
 pub mod Block
 pub mod Request
+pub mod RequestWords
 pub mod Rule
 pub mod Fits
 pub mod Policy

@@ -1,2 +1,5 @@
 // The images of document 01, policy, table, record and request, and their checks.
 pub mod answer;
+pub mod block;
+pub mod number;
+pub mod request;
