@@ -83,6 +83,11 @@ context-at s at = part-part s at 28 12 16 (omega arith)
 pub user-at : (s : List ℕ) (at : ℕ) → user (part s at 28) ≡ u32At s at
 user-at s at = u32At-part s at 28 0 (omega arith) ∙ rw (add-zero at)
 
+pub depth-at : (s : List ℕ) (at : ℕ) → ((i : ℕ) → Byte (getD s i 0))
+    → depthOf (contextOf (part s at 28)) ≡ usedWords (u32At s (at + 12)) (u32At s (at + 16)) (u32At s (at + 20)) (u32At s (at + 24))
+depth-at s at bytes =
+    rw (context-at s at) (depth-words s bytes (at + 12) ∙ rw (add-assoc at 12 4, add-assoc at 12 8, add-assoc at 12 12))
+
 pub request-words : (s : List ℕ) (at : ℕ) → ((i : ℕ) → Byte (getD s i 0))
     → goodRequest (part s at 28)
     ≡ not (eqb (u32At s at) 0) && not (eqb (u32At s (at + 4)) 0) && usedWord (u32At s (at + 8)) && goodContext (part s (at + 12) 16)

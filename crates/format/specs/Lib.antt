@@ -10,3 +10,4 @@ pub mod Table
 pub mod Calls
 pub mod Place
 pub mod Code
+pub mod CheckParts

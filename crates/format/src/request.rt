@@ -1,7 +1,8 @@
 // The request: what its 28 bytes say, and its check. The words of 4 bytes are read whole, and those that hold two numbers are parted
 // after that: a table has many requests to look at.
 ghost use mathlib.Core.Path.{_≡_};
-ghost use Prim.Native.Nat.{_+_, _<_, _≤_};
+ghost use mathlib.Core.Bool.{cond};
+ghost use Prim.Native.Nat.{_+_, _≤_};
 ghost use lib.ListN.{length};
 ghost use Rattle.words.specs.Bytes.{part};
 ghost use Rattle.format.specs.Request.{user as userOf, roles as rolesOf, operation as operationOf, target as targetOf, contextOf, depthOf, goodContext, goodRequest, requestFault};
@@ -65,6 +66,33 @@ fn good_levels(w: u32, x: u32, y: u32, z: u32) -> bool
         & ((x == 0) | (used(x) & one))
         & ((y == 0) | (used(y) & two))
         & ((z == 0) | (used(z) & three))
+}
+
+// 1 for a used level, and 0 for any other.
+fn used_count(word: u32) -> u32
+    ensures { λ r. ⌜ (r ≡ cond (usedWord word) 1 0) × (r ≤ 1) ⌝ }
+{
+    if used(word) { 1 } else { 0 }
+}
+
+// How many of the four levels are used.
+fn used_levels(w: u32, x: u32, y: u32, z: u32) -> u32
+    ensures { λ r. ⌜ r ≡ usedWords w x y z ⌝ }
+{
+    used_count(w) + used_count(x) + used_count(y) + used_count(z)
+}
+
+// The depth of the request's context.
+pub fn depth(s: &[u8], at: usize) -> u32
+    requires { ⌜ at + 28 ≤ length (now s) ⌝ }
+    ensures { λ r. ⌜ r ≡ depthOf (contextOf (part (now (s .entry)) at 28)) ⌝ }
+{
+    used_levels(
+        u32_at(s, at + 12),
+        u32_at(s, at + 16),
+        u32_at(s, at + 20),
+        u32_at(s, at + 24),
+    )
 }
 
 // The context of a request, which begins at its byte 12.

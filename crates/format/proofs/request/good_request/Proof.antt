@@ -37,7 +37,8 @@ returns : tie.Need-returns
 returns c =
     let a = c .before .before .before .before .before .before .args in
     let bytes : (i : ℕ) → Byte (getD (a .s .now) i 0) = λ i. c .before .before .before .before .before .shared-slice-known .given i .fits in
-    cc (request-words (a .s .now) (a .at) bytes)
+    rw (c .before .before .before .before .u32-at .ensures, c .before .before .before .u32-at2 .ensures, c .before .used .ensures, c .before .before .u32-at3 .ensures, c .good-context .ensures)
+    (sym (request-words (a .s .now) (a .at) bytes))
 
 pub good-request-spec : {M : Type 1} → statement M
 good-request-spec =
