@@ -2,6 +2,7 @@ pub mod Answer
 pub mod Layout
 pub mod Block
 pub mod Request
+pub mod RequestWords
 pub mod Rule
 pub mod Fits
 pub mod Policy
@@ -9,3 +10,4 @@ pub mod Table
 pub mod Calls
 pub mod Place
 pub mod Code
+pub mod CheckParts

@@ -1,12 +1,14 @@
 -- `sameList` tells equal lists of numbers from others.
 -- Assumes nothing.
-use Prim.Native.Nat.{ℕ}
+use Prim.Native.Nat.{ℕ, zero, suc, _+_}
+use native.Mathlib.Nat.{add-zero, zero-add, add-suc, suc-add}
 use mathlib.Core.Path.{_≡_, refl, sym, ap, _∙_}
-use mathlib.Core.Bool.{Bool, true, false, _&&_}
+use mathlib.Core.Bool.{Bool, true, false, _&&_, and-assoc, and-true}
 use mathlib.Core.List.{List, [], _∷_}
 use borrow.Author.Tests.{eqb-true, eq-eqb}
 use lib.Dec.{eqb}
-use Rattle.words.specs.Lists.{sameList}
+use Rattle.words.specs.Lists.{allBelow, tab, sameList}
+use Rattle.words.proofs.Tests.{allBelow-same}
 
 pub same-refl : (xs : List ℕ) → sameList xs xs ≡ true
 unfolding sameList
@@ -30,3 +32,23 @@ same-swap xs ys e = go (sameList ys xs) refl
     go : (b : Bool) → sameList ys xs ≡ b → b ≡ false
     go true t = sym (same-refl xs) ∙ ap (sameList xs) (sym (same-eq ys xs t)) ∙ e
     go false t = refl
+
+-- ---- lists that are made by index
+
+-- the first test apart
+allBelow-first : (n : ℕ) (f : ℕ → Bool) → allBelow (suc n) f ≡ f 0 && allBelow n (λ i. f (suc i))
+unfolding allBelow
+allBelow-first zero f = sym (and-true (f 0))
+allBelow-first (suc n) f = rw (allBelow-first n f) (and-assoc (f 0) (allBelow n (λ i. f (suc i))) (f (suc n)))
+
+same-tabs-from : (f g : ℕ → ℕ) (k n : ℕ) → sameList (tab f k n) (tab g k n) ≡ allBelow n (λ i. eqb (f (k + i)) (g (k + i)))
+unfolding sameList tab allBelow
+same-tabs-from f g k zero = refl
+same-tabs-from f g k (suc n) =
+    rw (same-tabs-from f g (suc k) n, allBelow-first n (λ i. eqb (f (k + i)) (g (k + i))), add-zero k)
+    (ap (λ (b : Bool). eqb (f k) (g k) && b)
+    (allBelow-same n (λ i. eqb (f (suc k + i)) (g (suc k + i))) (λ i. eqb (f (k + suc i)) (g (k + suc i))) (λ i h. rw (suc-add k i, add-suc k i))))
+
+pub same-tabs : (f g : ℕ → ℕ) (n : ℕ) → sameList (tab f 0 n) (tab g 0 n) ≡ allBelow n (λ i. eqb (f i) (g i))
+same-tabs f g n =
+    same-tabs-from f g 0 n ∙ allBelow-same n (λ i. eqb (f (0 + i)) (g (0 + i))) (λ i. eqb (f i) (g i)) (λ i h. rw (zero-add i))
