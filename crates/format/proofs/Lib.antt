@@ -1,6 +1,4 @@
 pub mod Check
-pub mod RequestWords
-pub mod Levels
 pub mod RecordImage
 pub mod BlockImage
 pub mod TableImage

@@ -2,7 +2,6 @@ pub mod Answer
 pub mod Layout
 pub mod Block
 pub mod Request
-pub mod RequestWords
 pub mod Rule
 pub mod Fits
 pub mod Policy
@@ -10,4 +9,3 @@ pub mod Table
 pub mod Calls
 pub mod Place
 pub mod Code
-pub mod CheckParts

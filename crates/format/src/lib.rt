@@ -1,6 +1,3 @@
 // The images of document 01, policy, table, record and request, and their checks.
 pub mod answer;
-pub mod block;
-pub mod fits;
 pub mod number;
-pub mod request;

@@ -1,0 +1,2 @@
+pub mod CheckParts
+pub mod RequestWords

@@ -1,0 +1,2 @@
+pub mod fits;
+pub mod request;
