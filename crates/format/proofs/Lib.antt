@@ -1,4 +1,7 @@
 pub mod Check
+pub mod BlankParts
+pub mod ByKind
+pub mod Sized
 pub mod RecordImage
 pub mod BlockImage
 pub mod TableImage

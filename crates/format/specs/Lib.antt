@@ -7,3 +7,4 @@ pub mod Fits
 pub mod Policy
 pub mod Table
 pub mod Calls
+pub mod Code

@@ -1,9 +1,12 @@
--- When nothing applies: `none` of a test, of two checks in a row, and of a check at each number of a range.
+-- When nothing applies: `none` of a test, of two checks in a row, and of a check at each number of a range. And the search for
+-- the first that applies, as a loop takes it.
 -- Assumes nothing.
-use Prim.Native.Nat.{ℕ, zero, suc, _+_, _≤_, _<_}
+use Prim.Native.Nat.{ℕ, zero, suc, _+_, _-_, _≤_, _<_}
+use native.Mathlib.Nat.{sub-zero}
+use native.Mathlib.Numerals.{add-one}
 use native.Mathlib.Decide.{decLt}
 use native.Mathlib.Omega.{arith}
-use mathlib.Core.Path.{_≡_, refl}
+use mathlib.Core.Path.{_≡_, refl, sym, _∙_}
 use mathlib.Core.Bool.{Bool, true, false}
 use mathlib.Core.Option.{Option, none, some}
 use Rattle.words.specs.First.{_orElse_, unless, first}
@@ -17,6 +20,10 @@ module _ {A : Type 0} where
   unfolding unless
   passes-unless true a h = refl
   passes-unless false a h = cc
+
+  pub unless-fails : {t : Bool} (a : A) → t ≡ false → unless t a ≡ some a
+  unfolding unless
+  unless-fails a h = rw h
 
   pub orElse-none : {x y : Option A} → x ≡ none → y ≡ none → x orElse y ≡ none
   unfolding _orElse_
@@ -57,3 +64,35 @@ module _ {A : Type 0} where
   first-same f g k zero h = refl
   first-same f g k (suc n) h =
       rw (h k (omega arith) (omega arith), first-same f g (suc k) n (λ i a b. h i (omega arith) (omega arith)))
+
+  some-orElse : (x y : Option A) {a : A} → x ≡ some a → x orElse y ≡ some a
+  unfolding _orElse_
+  some-orElse x y e = rw e
+
+  -- a test before what follows: it fails, or what follows decides
+  pub test-fails : {t : Bool} (a : A) (o : Option A) → t ≡ false → unless t a orElse o ≡ some a
+  unfolding unless _orElse_
+  test-fails a o h = rw h
+
+  pub test-passes : {t : Bool} (a : A) (o : Option A) → t ≡ true → unless t a orElse o ≡ o
+  unfolding unless _orElse_
+  test-passes a o h = rw h
+
+  -- ---- the search for the first that applies of f 0, .., f (n - 1), at the number k: what is left says what the whole says, t
+
+  first-step : (f : ℕ → Option A) (k n : ℕ) → k < n → first f k (n - k) ≡ f k orElse first f (k + 1) (n - (k + 1))
+  unfolding first
+  first-step f k n h = let e : n - k ≡ suc (n - suc k) = omega arith in rw (add-one k, e)
+
+  pub first-start : (f : ℕ → Option A) (n : ℕ) → first f 0 (n - 0) ≡ first f 0 n
+  first-start f n = rw sub-zero
+
+  pub first-hit : (f : ℕ → Option A) (k n : ℕ) {t : Option A} {a : A} → first f k (n - k) ≡ t → k < n → f k ≡ some a → some a ≡ t
+  first-hit f k n i h e = sym (some-orElse (f k) (first f (k + 1) (n - (k + 1))) e) ∙ sym (first-step f k n h) ∙ i
+
+  pub first-more : (f : ℕ → Option A) (k n : ℕ) {t : Option A} → first f k (n - k) ≡ t → k < n → f k ≡ none → first f (k + 1) (n - (k + 1)) ≡ t
+  first-more f k n i h e = sym (none-orElse (f k) (first f (k + 1) (n - (k + 1))) e) ∙ sym (first-step f k n h) ∙ i
+
+  pub first-done : (f : ℕ → Option A) (k n : ℕ) {t : Option A} → first f k (n - k) ≡ t → n ≤ k → none ≡ t
+  unfolding first
+  first-done f k n i h = let e : n - k ≡ zero = omega arith in rw e at i

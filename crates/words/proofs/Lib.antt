@@ -7,5 +7,6 @@ pub mod Keep
 pub mod Packed
 pub mod Same
 pub mod Bytes
+pub mod Zeros
 pub mod Bits
 pub mod Sums

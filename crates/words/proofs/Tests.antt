@@ -49,6 +49,12 @@ allBelow-at zero i f h b = absurd (omega arith)
 allBelow-at (suc n) i f h b =
     below-suc (λ j. f j ≡ true) n i b (allBelow-at n i f (both-first (allBelow n f) (f n) h)) (both-second (allBelow n f) (f n) h)
 
+-- tests that agree below n pass together
+pub allBelow-same : (n : ℕ) (f g : ℕ → Bool) → ((i : ℕ) → i < n → f i ≡ g i) → allBelow n f ≡ allBelow n g
+unfolding allBelow
+allBelow-same zero f g h = refl
+allBelow-same (suc n) f g h = rw (h n (omega arith), allBelow-same n f g (λ i k. h i (omega arith)))
+
 pub anyBelow-false : (n : ℕ) (f : ℕ → Bool) → ((i : ℕ) → i < n → f i ≡ false) → anyBelow n f ≡ false
 unfolding anyBelow
 anyBelow-false zero f h = refl

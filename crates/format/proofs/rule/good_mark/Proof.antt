@@ -1,0 +1,13 @@
+-- `format::rule::good_mark` meets its contract.
+-- Assumes nothing.
+use borrow.Author.Needs.{needs}
+use Rattle.format.specs.Rule.{goodMark}
+use Rattle.format.proofs.rule.good_mark.Statement.{statement}
+use Rattle.format.proofs.rule.good_mark.Tie as tie
+
+returns : tie.Need-returns
+unfolding goodMark
+returns c = search needs
+
+pub good-mark-spec : {M : Type 1} → statement M
+good-mark-spec = tie.close (tie.spec returns)

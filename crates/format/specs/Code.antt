@@ -1,0 +1,76 @@
+-- What the values of the code stand for.
+-- Assumes nothing.
+use Prim.Native.Nat.{ℕ, _+_}
+use mathlib.Core.Bool.{Bool, cond, not, _&&_, _||_}
+use mathlib.Core.List.{List}
+use mathlib.Core.Option.{Option, none, some}
+use lib.Dec.{eqb, leb, ltb}
+use Rattle.words.specs.Lists.{allBelow}
+use Rattle.words.specs.First.{unless, first}
+use Rattle.words.specs.Bytes.{byteAt}
+use Rattle.format.specs.Answer.{Refusal, refusal}
+use Rattle.format.specs.Layout.{highestRole}
+use Rattle.format.specs.Rule.{Level, Step, Exclusion, Rule, ruleAt, privilegeAt, goodLevel, blankLevel, goodRoles, goodPrivileges, goodExclusionAt}
+use Rattle.format.specs.Policy.{permissionAt, entries, goodPermission}
+use Rattle.format.specs.declared.answer.Refusal as declared
+use Rattle.format.specs.declared.answer.Fault.{Fault}
+use Rattle.format.specs.declared.answer.Fault.the-variants.{Nothing, At}
+
+-- a refusal, as the code hands it on
+abbrev pub refusalOf : declared.Refusal → Refusal
+refusalOf r = record { number = r .number; first = r .first; second = r .second }
+
+-- the answer of a check: nothing, or the refusal of the first fault
+abbrev pub faultOf : Fault → Option Refusal
+faultOf Nothing = none
+faultOf (At r) = some (refusalOf r)
+
+-- ---- parts of a rule block's check that a function computes
+
+-- level i of a rule of a depth
+abbrev pub goodLevelOf : ℕ → (ℕ → Level) → ℕ → Bool
+goodLevelOf depth level i = cond (ltb i depth) (goodLevel (level i)) (blankLevel (level i))
+
+-- the four levels of a rule
+abbrev pub goodLevels : Rule → Bool
+goodLevels r = allBelow 4 (goodLevelOf (r .depth) (r .level))
+
+-- the step whose flag and whose privilege stand at two places
+abbrev pub stepAt : List ℕ → ℕ → ℕ → Step
+stepAt b flag at = record { flag = byteAt b flag; privilege = privilegeAt b at }
+
+-- member i of an exclusion of roles has a role that no member before it has
+abbrev pub newRole : Exclusion → ℕ → Bool
+newRole x i = allBelow i (λ j. not (eqb (x .member j .operation) (x .member i .operation)))
+
+-- member i of an exclusion of roles
+abbrev pub goodRole : Exclusion → ℕ → Bool
+goodRole x i =
+    leb 1 (x .member i .operation)
+    && leb (x .member i .operation) highestRole
+    && eqb (x .member i .target) 0
+    && newRole x i
+
+-- the members of an exclusion, by its kind
+abbrev pub goodMembers : Exclusion → Bool
+goodMembers x = (eqb (x .kind) 1 && goodRoles x) || (eqb (x .kind) 2 && goodPrivileges x)
+
+-- "2 <= m <= n <= 8", and the zero byte beside them
+abbrev pub goodSize : Exclusion → Bool
+goodSize x = eqb (x .pad) 0 && leb 2 (x .m) && leb (x .m) (x .n) && leb (x .n) 8
+
+-- exclusion e of rule block k, and the first bad one
+abbrev pub exclusionFault : ℕ → List ℕ → ℕ → Option Refusal
+exclusionFault k b e = unless (goodExclusionAt (ruleAt b) e) (refusal 5 k (e + 1))
+
+abbrev pub exclusionsFault : ℕ → List ℕ → Option Refusal
+exclusionsFault k b = first (exclusionFault k b) 0 8
+
+-- ---- parts of a permission block's check
+
+-- entry i of permission block k, and the first bad one
+abbrev pub entryFault : ℕ → List ℕ → ℕ → Option Refusal
+entryFault k b i = unless (goodPermission (permissionAt b i)) (refusal 6 k (i + 1))
+
+abbrev pub entriesFault : ℕ → List ℕ → Option Refusal
+entriesFault k b = first (entryFault k b) 0 (entries b)

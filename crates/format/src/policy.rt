@@ -1,0 +1,1 @@
+// The policy image: its blocks in turn, and the number of its rules.
