@@ -2,6 +2,8 @@ pub mod Check
 pub mod BlankParts
 pub mod ByKind
 pub mod Sized
+pub mod BlockFields
+pub mod PolicyBlock
 pub mod RecordImage
 pub mod BlockImage
 pub mod TableImage

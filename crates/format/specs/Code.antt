@@ -5,13 +5,14 @@ use mathlib.Core.Bool.{Bool, cond, not, _&&_, _||_}
 use mathlib.Core.List.{List}
 use mathlib.Core.Option.{Option, none, some}
 use lib.Dec.{eqb, leb, ltb}
-use Rattle.words.specs.Lists.{allBelow}
-use Rattle.words.specs.First.{unless, first}
+use Rattle.words.specs.Lists.{allBelow, anyBelow, sumBelow}
+use Rattle.words.specs.First.{_orElse_, unless, first}
 use Rattle.words.specs.Bytes.{byteAt}
 use Rattle.format.specs.Answer.{Refusal, refusal}
-use Rattle.format.specs.Layout.{highestRole}
-use Rattle.format.specs.Rule.{Level, Step, Exclusion, Rule, ruleAt, privilegeAt, goodLevel, blankLevel, goodRoles, goodPrivileges, goodExclusionAt}
-use Rattle.format.specs.Policy.{permissionAt, entries, goodPermission}
+use Rattle.format.specs.Layout.{highestRole, mostRules, permissionKind, ruleKind}
+use Rattle.format.specs.Block.{block, blocks, goodCheck, kind, number, total}
+use Rattle.format.specs.Rule.{Level, Step, Exclusion, Rule, ruleAt, privilegeAt, goodLevel, blankLevel, goodRoles, goodPrivileges, goodExclusionAt, ruleFault}
+use Rattle.format.specs.Policy.{permissionAt, entries, goodPermission, permissionFault, policyBlockFault}
 use Rattle.format.specs.declared.answer.Refusal as declared
 use Rattle.format.specs.declared.answer.Fault.{Fault}
 use Rattle.format.specs.declared.answer.Fault.the-variants.{Nothing, At}
@@ -74,3 +75,31 @@ entryFault k b i = unless (goodPermission (permissionAt b i)) (refusal 6 k (i + 
 
 abbrev pub entriesFault : ℕ → List ℕ → Option Refusal
 entriesFault k b = first (entryFault k b) 0 (entries b)
+
+-- ---- parts of a policy's check
+
+-- a permission block stands before block k
+abbrev pub permissionBefore : List ℕ → ℕ → Bool
+permissionBefore s k = anyBelow k (λ j. eqb (kind (block s j)) permissionKind)
+
+-- the header of a block, by its number, the number of blocks and what came before it
+unfoldable pub goodHeader : ℕ → ℕ → Bool → List ℕ → Bool
+goodHeader k n seen b =
+    eqb (number b) k
+    && eqb (total b) n
+    && (eqb (kind b) permissionKind || (eqb (kind b) ruleKind && ltb k mostRules && not seen))
+
+-- the fault of a block, by the same
+unfoldable pub blockFault : ℕ → ℕ → Bool → List ℕ → Option Refusal
+blockFault k n seen b =
+    unless (goodCheck b) (refusal 2 k 0)
+    orElse unless (goodHeader k n seen b) (refusal 3 k 0)
+    orElse cond (eqb (kind b) ruleKind) (ruleFault k b) (permissionFault k b)
+
+-- the first fault of the blocks in turn
+abbrev pub blocksFault : List ℕ → Option Refusal
+blocksFault s = first (policyBlockFault s) 0 (blocks s)
+
+-- how many of the first k blocks are rules
+abbrev pub rulesBefore : List ℕ → ℕ → ℕ
+rulesBefore s k = sumBelow k (λ j. cond (eqb (kind (block s j)) ruleKind) 1 0)
