@@ -8,5 +8,6 @@ pub mod Packed
 pub mod Same
 pub mod Bytes
 pub mod Parts
+pub mod Zeros
 pub mod Bits
 pub mod Sums

@@ -1,0 +1,5 @@
+pub mod BlankParts
+pub mod BlockFields
+pub mod ByKind
+pub mod PolicyBlock
+pub mod Sized

@@ -1,0 +1,100 @@
+// The policy image: its blocks in turn, and the number of its rules.
+ghost use mathlib.Core.Path.{_≡_};
+ghost use Prim.Native.Nat.{_<_};
+ghost use lib.ListN.{length};
+ghost use Rattle.format.specs.Block.{blocks};
+ghost use Rattle.format.specs.Policy.{policyFault, ruleCount};
+ghost use Rattle.format.specs.Code.{faultOf};
+ghost use Rattle.policy_check.specs.Parts.{goodHeader, blockFault, blocksFault};
+use crate::block::good_check;
+use crate::block::good_length;
+use crate::permission::permission_fault;
+use crate::rule::rule_fault;
+use format::answer::Fault;
+use format::answer::Refusal;
+use words::field::u16_at;
+use words::field::u32_at;
+
+// The header of block k of `total`, where `seen` says that a permission block came before it.
+fn good_header(b: &[u8], k: u32, total: u32, seen: bool) -> bool
+    requires { ⌜ length (now b) ≡ 512 ⌝ }
+    ensures { λ r. ⌜ r ≡ goodHeader k total seen (now (b .entry)) ⌝ }
+{
+    let kind = u32_at(b, 0);
+    (u16_at(b, 4) == k) & (u16_at(b, 6) == total) & ((kind == 3) | ((kind == 1) & (k < 32) & !seen))
+}
+
+// The fault of block k of `total`, numbers upwards.
+fn block_fault(b: &[u8], k: u32, total: u32, seen: bool) -> Fault
+    requires { ⌜ length (now b) ≡ 512 ⌝ }
+    ensures { λ r. ⌜ faultOf r ≡ blockFault k total seen (now (b .entry)) ⌝ }
+{
+    if !good_check(b) {
+        return Fault::At(Refusal {
+            number: 2,
+            first: k,
+            second: 0,
+        });
+    }
+    if !good_header(b, k, total, seen) {
+        return Fault::At(Refusal {
+            number: 3,
+            first: k,
+            second: 0,
+        });
+    }
+    if u32_at(b, 0) == 1 {
+        rule_fault(b, k)
+    } else {
+        permission_fault(b, k)
+    }
+}
+
+// The first fault of the blocks in turn.
+fn blocks_fault(s: &[u8]) -> Fault
+    requires { ⌜ blocks (now s) < 4294967296 ⌝ }
+    ensures { λ r. ⌜ faultOf r ≡ blocksFault (now (s .entry)) ⌝ }
+{
+    let total = s.len() / 512;
+    let mut seen = false;
+    for k in 0..total {
+        let at = 512 * k;
+        let end = at + 512;
+        let b = &s[at..end];
+        let fault = block_fault(b, k as u32, total as u32, seen);
+        let Fault::Nothing = fault else {
+            return fault;
+        };
+        seen = seen | (u32_at(b, 0) == 3);
+    }
+    Fault::Nothing
+}
+
+// The check of a policy: its length, then each block in turn.
+pub fn policy_fault(s: &[u8]) -> Fault
+    ensures { λ r. ⌜ faultOf r ≡ policyFault (now (s .entry)) ⌝ }
+{
+    if !good_length(s, 64) {
+        return Fault::At(Refusal {
+            number: 1,
+            first: 0,
+            second: 0,
+        });
+    }
+    blocks_fault(s)
+}
+
+// How many blocks of a policy are rules.
+pub fn rule_count(s: &[u8]) -> u32
+    requires { ⌜ blocks (now s) < 4294967296 ⌝ }
+    ensures { λ r. ⌜ r ≡ ruleCount (now (s .entry)) ⌝ }
+{
+    let total = s.len() / 512;
+    let mut rules = 0u32;
+    for k in 0..total {
+        if u32_at(s, 512 * k) == 1 {
+            rules += 1;
+        }
+    }
+    rules
+}

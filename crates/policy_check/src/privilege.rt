@@ -1,0 +1,31 @@
+// Privileges, an operation with a target, as a rule block holds them. Each function is told where the privilege stands and reads
+// both numbers itself, so that no caller can mix them up.
+ghost use mathlib.Core.Path.{_≡_};
+ghost use Prim.Native.Nat.{_+_, _<_};
+ghost use lib.ListN.{length};
+ghost use Rattle.format.specs.Rule.{privilegeAt, fullPrivilege, blankPrivilege, samePrivilege};
+use words::field::u16_at;
+
+// Both numbers are from 1.
+pub fn full(b: &[u8], at: usize) -> bool
+    requires { ⌜ at + 3 < length (now b) ⌝ }
+    ensures { λ r. ⌜ r ≡ fullPrivilege (privilegeAt (now (b .entry)) at) ⌝ }
+{
+    (u16_at(b, at) != 0) & (u16_at(b, at + 2) != 0)
+}
+
+// Both numbers are zero.
+pub fn blank(b: &[u8], at: usize) -> bool
+    requires { ⌜ at + 3 < length (now b) ⌝ }
+    ensures { λ r. ⌜ r ≡ blankPrivilege (privilegeAt (now (b .entry)) at) ⌝ }
+{
+    (u16_at(b, at) == 0) & (u16_at(b, at + 2) == 0)
+}
+
+// The two privileges are one.
+pub fn same(b: &[u8], at: usize, other: usize) -> bool
+    requires { ⌜ (at + 3 < length (now b)) × (other + 3 < length (now b)) ⌝ }
+    ensures { λ r. ⌜ r ≡ samePrivilege (privilegeAt (now (b .entry)) at) (privilegeAt (now (b .entry)) other) ⌝ }
+{
+    (u16_at(b, at) == u16_at(b, other)) & (u16_at(b, at + 2) == u16_at(b, other + 2))
+}
