@@ -5,5 +5,7 @@ pub mod RecordImage
 pub mod BlockImage
 pub mod TableImage
 pub mod AcceptedBlock
+pub mod TableBlock
 pub mod Accepted
+pub mod Here
 pub mod AcceptedPolicy

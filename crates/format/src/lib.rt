@@ -3,4 +3,6 @@ pub mod answer;
 pub mod block;
 pub mod fits;
 pub mod number;
+pub mod record;
 pub mod request;
+pub mod tables;

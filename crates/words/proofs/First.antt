@@ -69,6 +69,15 @@ module _ {A : Type 0} where
   unfolding _orElse_
   some-orElse x y e = rw e
 
+  -- a test before what follows: it fails, or what follows decides
+  pub test-fails : {t : Bool} (a : A) (o : Option A) → t ≡ false → unless t a orElse o ≡ some a
+  unfolding unless _orElse_
+  test-fails a o h = rw h
+
+  pub test-passes : {t : Bool} (a : A) (o : Option A) → t ≡ true → unless t a orElse o ≡ o
+  unfolding unless _orElse_
+  test-passes a o h = rw h
+
   -- ---- the search for the first that applies of f 0, .., f (n - 1), at the number k: what is left says what the whole says, t
 
   first-step : (f : ℕ → Option A) (k n : ℕ) → k < n → first f k (n - k) ≡ f k orElse first f (k + 1) (n - (k + 1))

@@ -1,8 +1,8 @@
 -- `format::fits::fits` meets its contract.
 -- Assumes nothing.
+use borrow.Author.Needs.{needs}
 use Rattle.format.specs.Rule.{ruleAt}
 use Rattle.format.specs.Fits.{fits}
-use borrow.Author.Needs.{needs}
 use Rattle.format.proofs.fits.fits.Statement.{statement}
 use Rattle.format.proofs.fits.fits.Tie as tie
 

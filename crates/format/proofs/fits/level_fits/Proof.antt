@@ -1,7 +1,7 @@
 -- `format::fits::level_fits` meets its contract.
 -- Assumes nothing.
-use Rattle.format.specs.Fits.{levelFits}
 use borrow.Author.Needs.{needs}
+use Rattle.format.specs.Fits.{levelFits}
 use Rattle.format.proofs.fits.level_fits.Statement.{statement}
 use Rattle.format.proofs.fits.level_fits.Tie as tie
 

@@ -1,17 +1,17 @@
 -- `format::fits::levels_fit` meets its contract.
 -- Assumes nothing.
-use lib.ListN.{getD}
-use Rattle.words.proofs.Bytes.{Byte}
-use native.Mathlib.Numerals.{add-one}
-use Rattle.format.proofs.Levels.{type-word, value-word}
 use Prim.Native.Nat.{ℕ, _-_, _<_, _≤_}
-use mathlib.Core.Path.{_≡_, refl}
+use native.Mathlib.Numerals.{add-one}
 use native.Mathlib.Omega.{arith}
+use mathlib.Core.Path.{_≡_, refl}
+use lib.ListN.{getD}
+use borrow.Author.Needs.{needs}
 use Rattle.words.specs.Lists.{allBelow}
 use Rattle.words.specs.Bytes.{part}
+use Rattle.words.proofs.Bytes.{Byte}
 use Rattle.format.specs.Rule.{ruleAt}
 use Rattle.format.specs.CheckParts.{fitsBelow}
-use borrow.Author.Needs.{needs}
+use Rattle.format.proofs.Levels.{type-word, value-word}
 use Rattle.format.proofs.fits.levels_fit.Statement.{statement}
 use Rattle.format.proofs.fits.levels_fit.Tie as tie
 

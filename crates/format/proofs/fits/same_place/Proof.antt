@@ -1,15 +1,15 @@
 -- `format::fits::same_place` meets its contract.
 -- Assumes nothing.
-use Prim.Native.Nat.{ℕ, _-_, _<_, _≤_}
-use mathlib.Core.Path.{_≡_, refl}
+use Prim.Native.Nat.{_-_, _<_, _≤_}
 use native.Mathlib.Omega.{arith}
 use native.Mathlib.Numerals.{add-one}
+use mathlib.Core.Path.{_≡_, refl}
+use borrow.Author.Needs.{needs}
 use Rattle.words.specs.Lists.{allBelow}
 use Rattle.words.specs.Bytes.{byteAt, part}
 use Rattle.format.specs.Rule.{ruleAt}
 use Rattle.format.specs.CheckParts.{sameAt}
 use Rattle.format.proofs.Levels.{value-at, same-place}
-use borrow.Author.Needs.{needs}
 use Rattle.format.proofs.fits.same_place.Statement.{statement}
 use Rattle.format.proofs.fits.same_place.Tie as tie
 

@@ -2,9 +2,9 @@
 -- Assumes nothing.
 use Prim.Native.Nat.{ℕ}
 use lib.ListN.{getD}
+use borrow.Author.Needs.{needs}
 use Rattle.words.proofs.Bytes.{Byte}
 use Rattle.format.proofs.RequestWords.{depth-at}
-use borrow.Author.Needs.{needs}
 use Rattle.format.proofs.request.depth.Statement.{statement}
 use Rattle.format.proofs.request.depth.Tie as tie
 

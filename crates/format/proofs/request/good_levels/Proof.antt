@@ -1,7 +1,7 @@
 -- `format::request::good_levels` meets its contract.
 -- Assumes nothing.
-use Rattle.format.specs.RequestWords.{goodLevelWords}
 use borrow.Author.Needs.{needs}
+use Rattle.format.specs.RequestWords.{goodLevelWords}
 use Rattle.format.proofs.request.good_levels.Statement.{statement}
 use Rattle.format.proofs.request.good_levels.Tie as tie
 

@@ -1,11 +1,11 @@
 -- `format::request::good_request` meets its contract.
 -- Assumes nothing.
 use Prim.Native.Nat.{ℕ}
+use mathlib.Core.Path.{sym}
 use lib.ListN.{getD}
+use borrow.Author.Needs.{needs}
 use Rattle.words.proofs.Bytes.{Byte}
 use Rattle.format.proofs.RequestWords.{request-words}
-use mathlib.Core.Path.{sym, _∙_}
-use borrow.Author.Needs.{needs}
 use Rattle.format.proofs.request.good_request.Statement.{statement}
 use Rattle.format.proofs.request.good_request.Tie as tie
 

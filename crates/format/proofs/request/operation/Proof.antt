@@ -1,9 +1,9 @@
 -- `format::request::operation` meets its contract.
 -- Assumes nothing.
 use native.Mathlib.Omega.{arith}
-use Rattle.words.proofs.Parts.{u16At-part}
 use mathlib.Core.Path.{sym, _∙_}
 use borrow.Author.Needs.{needs}
+use Rattle.words.proofs.Parts.{u16At-part}
 use Rattle.format.proofs.request.operation.Statement.{statement}
 use Rattle.format.proofs.request.operation.Tie as tie
 

@@ -1,7 +1,7 @@
 -- `format::request::used` meets its contract.
 -- Assumes nothing.
-use Rattle.format.specs.RequestWords.{usedWord}
 use borrow.Author.Needs.{needs}
+use Rattle.format.specs.RequestWords.{usedWord}
 use Rattle.format.proofs.request.used.Statement.{statement}
 use Rattle.format.proofs.request.used.Tie as tie
 

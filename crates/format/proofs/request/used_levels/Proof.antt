@@ -1,7 +1,7 @@
 -- `format::request::used_levels` meets its contract.
 -- Assumes nothing.
-use Rattle.format.specs.RequestWords.{usedWords}
 use borrow.Author.Needs.{needs}
+use Rattle.format.specs.RequestWords.{usedWords}
 use Rattle.format.proofs.request.used_levels.Statement.{statement}
 use Rattle.format.proofs.request.used_levels.Tie as tie
 

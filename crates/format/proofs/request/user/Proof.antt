@@ -1,8 +1,8 @@
 -- `format::request::user` meets its contract.
 -- Assumes nothing.
 use mathlib.Core.Path.{sym, _∙_}
-use Rattle.format.proofs.RequestWords.{user-at}
 use borrow.Author.Needs.{needs}
+use Rattle.format.proofs.RequestWords.{user-at}
 use Rattle.format.proofs.request.user.Statement.{statement}
 use Rattle.format.proofs.request.user.Tie as tie
 
