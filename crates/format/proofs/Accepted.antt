@@ -87,7 +87,7 @@ module _ (policy s : List ℕ) (accepted : tableFault policy s ≡ none) where
       (none-at (tableBlockFault (policyOf policy) (stamp policy) s) 0 (blocks s) k
       (none-second (tableLengthFault s) (first (tableBlockFault (policyOf policy) (stamp policy) s) 0 (blocks s)) accepted) (omega arith) (omega arith))
 
-  packed : Packed blockRecords (λ k. recordsIn (block s k)) 0 (blocks s)
+  pub packed : Packed blockRecords (λ k. recordsIn (block s k)) 0 (blocks s)
   unfolding tab
   packed =
       record {
@@ -95,7 +95,7 @@ module _ (policy s : List ℕ) (accepted : tableFault policy s ≡ none) where
         full = λ j k lo lt hi short. rw (behind-short s j k (accepted-at k (omega arith) .header .no-gap) lt (rw length-tab at short));
       }
 
-  chunk-again : (k : ℕ) → k < blocks s → chunk (recordsOf s) k ≡ recordsIn (block s k)
+  pub chunk-again : (k : ℕ) → k < blocks s → chunk (recordsOf s) k ≡ recordsIn (block s k)
   unfolding recordsOf
   chunk-again k h = part-packed blockRecords (λ j. recordsIn (block s j)) 0 (blocks s) k packed h ∙ ap (λ j. recordsIn (block s j)) (zero-add k)
 

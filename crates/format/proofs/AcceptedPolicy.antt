@@ -10,6 +10,7 @@ use native.Mathlib.Omega.{arith}
 use borrow.Author.Tests.{eqb-true, leb-true, ltb-true, not-true, lt-ltb}
 use lib.Dec.{eqb, ltb, leb}
 use Rattle.words.specs.Lists.{allBelow, anyBelow, sumBelow}
+use Rattle.words.specs.Bytes.{byteAt}
 use Rattle.words.proofs.First.{none-first, none-second, passes-unless, none-at}
 use Rattle.words.proofs.Tests.{both-first, both-second, anyBelow-at}
 use Rattle.format.specs.Layout.{ruleKind, permissionKind, mostRules}
@@ -119,6 +120,11 @@ module _ (s : List ℕ) (accepted : policyFault s ≡ none) where
   pub rule-good : (i : ℕ) → i < ruleCount s → goodRule (ruleAt (block s i)) ≡ true
   unfolding ruleFault goodRuleBytes
   rule-good i h = both-first _ _ (both-first _ _ (passes-unless _ _ (none-first _ _ (rule-accepted i h))))
+
+  -- a rule's depth, by its byte
+  pub depth-few : (i : ℕ) → i < ruleCount s → byteAt (block s i) 8 ≤ 4
+  unfolding goodRule ruleAt
+  depth-few i h = leb-true (byteAt (block s i) 8) 4 (both-first _ _ (both-first _ _ (both-first _ _ (both-first _ _ (rule-good i h)))))
 
   exclusions-few : (i : ℕ) → i < ruleCount s → ruleAt (block s i) .exclusions ≤ 8
   unfolding goodRule

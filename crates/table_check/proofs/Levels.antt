@@ -1,15 +1,13 @@
 -- A rule's levels beside those of requests: the fields that the code reads, and two requests of one run place.
 -- Assumes nothing.
-use Prim.Native.Nat.{ℕ, zero, suc, _+_, _*_, _/_, _%_, _<_}
-use native.Mathlib.Nat.{add-assoc}
+use Prim.Native.Nat.{ℕ, _+_, _*_, _/_, _%_, _<_}
 use native.Mathlib.Omega.{arith}
-use mathlib.Core.Path.{_≡_, refl, sym, ap, _∙_}
-use mathlib.Core.Bool.{Bool, true, false, cond, not, _&&_, _||_, and-assoc}
+use mathlib.Core.Path.{_≡_, refl, ap, _∙_}
+use mathlib.Core.Bool.{Bool, true, false, cond, not, _||_}
 use mathlib.Core.List.{List}
 use lib.ListN.{getD}
 use lib.Dec.{eqb}
-use borrow.Author.Tests.{eq-eqb}
-use Rattle.words.specs.Lists.{allBelow, tab, sameList}
+use Rattle.words.specs.Lists.{allBelow}
 use Rattle.words.specs.Bytes.{u16At, u32At, part}
 use Rattle.words.proofs.Bytes.{Byte}
 use Rattle.words.proofs.Parts.{u16At-part}

@@ -1,2 +1,4 @@
 pub mod Levels
 pub mod RequestWords
+pub mod Here
+pub mod TableBlock

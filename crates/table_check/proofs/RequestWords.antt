@@ -1,10 +1,10 @@
 -- The fields of a request, read as words of the bytes that it is a part of.
 -- Assumes nothing.
-use Prim.Native.Nat.{ℕ, _+_, _*_, _/_, _%_, _≤_, _<_}
+use Prim.Native.Nat.{ℕ, _+_, _*_, _/_, _%_, _<_}
 use native.Mathlib.Nat.{add-zero, add-assoc}
 use native.Mathlib.Omega.{arith}
-use mathlib.Core.Path.{_≡_, refl, sym, ap, ap₂, _∙_}
-use mathlib.Core.Bool.{Bool, true, false, not, cond, _&&_, _||_, and-assoc, and-true}
+use mathlib.Core.Path.{_≡_, refl, sym, ap, _∙_}
+use mathlib.Core.Bool.{Bool, true, false, not, cond, _&&_, and-assoc, and-true}
 use mathlib.Core.List.{List}
 use lib.ListN.{getD}
 use lib.Dec.{eqb}
@@ -13,7 +13,7 @@ use Rattle.words.specs.Lists.{allBelow, sumBelow}
 use Rattle.words.specs.Bytes.{u16At, u32At, part}
 use Rattle.words.proofs.Bytes.{Byte}
 use Rattle.words.proofs.Parts.{part-part, u16At-part, u32At-part}
-use Rattle.format.specs.Request.{user, roles, operation, target, contextOf, levelType, levelValue, usedLevel, blankLevel, depthOf, goodContext, goodRequest}
+use Rattle.format.specs.Request.{user, contextOf, levelType, levelValue, usedLevel, blankLevel, depthOf, goodContext, goodRequest}
 use Rattle.table_check.specs.RequestWords.{usedWord, goodLevelWords, usedWords}
 
 -- ---- a word is two fields

@@ -1,2 +1,4 @@
 pub mod fits;
+pub mod record;
 pub mod request;
+pub mod tables;

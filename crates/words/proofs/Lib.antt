@@ -5,9 +5,11 @@ pub mod Every
 pub mod Lists
 pub mod Keep
 pub mod Packed
+pub mod Joined
 pub mod Same
 pub mod Bytes
 pub mod Parts
 pub mod Zeros
 pub mod Bits
+pub mod Halves
 pub mod Sums

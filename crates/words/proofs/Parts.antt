@@ -1,11 +1,11 @@
 -- A part of a part is a part of the whole, and its fields are the whole's.
 -- Assumes nothing.
-use Prim.Native.Nat.{ℕ, zero, suc, _+_, _≤_, _<_}
+use Prim.Native.Nat.{ℕ, zero, suc, _+_, _-_, _≤_, _<_}
 use native.Mathlib.Nat.{add-assoc}
 use native.Mathlib.Omega.{arith}
-use mathlib.Core.Path.{_≡_, refl, sym, ap, _∙_}
+use mathlib.Core.Path.{_≡_, refl, ap, _∙_}
 use mathlib.Core.List.{List, [], _∷_}
-use lib.ListN.{length, getD, take, drop}
+use lib.ListN.{length, getD, take, drop, length-take, length-drop}
 use lib.Seq.{getD-take, getD-drop, take-take, take-all, drop-drop}
 use Rattle.words.specs.Bytes.{u16At, u32At, part}
 
@@ -33,3 +33,10 @@ u32At-part s at n i h =
 
 pub part-whole : (s : List ℕ) (n : ℕ) → length s ≡ n → part s 0 n ≡ s
 part-whole s n h = take-all n s (omega arith)
+
+-- a part that is told by where it begins and where it ends
+pub part-to : (s : List ℕ) (at n : ℕ) → take (at + n - at) (drop at s) ≡ part s at n
+part-to s at n = let e : at + n - at ≡ n = omega arith in rw e
+
+pub part-length : (s : List ℕ) (at n : ℕ) → at + n ≤ length s → length (part s at n) ≡ n
+part-length s at n h = simp (length-take, length-drop) (omega arith)

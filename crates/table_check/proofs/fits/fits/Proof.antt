@@ -1,8 +1,8 @@
--- `crate::fits::fits` meets its contract.
+-- `table_check::fits::fits` meets its contract.
 -- Assumes nothing.
+use borrow.Author.Needs.{needs}
 use Rattle.format.specs.Rule.{ruleAt}
 use Rattle.format.specs.Fits.{fits}
-use borrow.Author.Needs.{needs}
 use Rattle.table_check.proofs.fits.fits.Statement.{statement}
 use Rattle.table_check.proofs.fits.fits.Tie as tie
 

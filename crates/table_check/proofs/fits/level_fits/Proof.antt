@@ -1,7 +1,7 @@
--- `crate::fits::level_fits` meets its contract.
+-- `table_check::fits::level_fits` meets its contract.
 -- Assumes nothing.
-use Rattle.format.specs.Fits.{levelFits}
 use borrow.Author.Needs.{needs}
+use Rattle.format.specs.Fits.{levelFits}
 use Rattle.table_check.proofs.fits.level_fits.Statement.{statement}
 use Rattle.table_check.proofs.fits.level_fits.Tie as tie
 

@@ -1,10 +1,10 @@
--- `crate::request::depth` meets its contract.
+-- `table_check::request::depth` meets its contract.
 -- Assumes nothing.
 use Prim.Native.Nat.{ℕ}
 use lib.ListN.{getD}
+use borrow.Author.Needs.{needs}
 use Rattle.words.proofs.Bytes.{Byte}
 use Rattle.table_check.proofs.RequestWords.{depth-at}
-use borrow.Author.Needs.{needs}
 use Rattle.table_check.proofs.request.depth.Statement.{statement}
 use Rattle.table_check.proofs.request.depth.Tie as tie
 

@@ -1,11 +1,10 @@
--- `crate::request::good_context` meets its contract.
+-- `table_check::request::good_context` meets its contract.
 -- Assumes nothing.
 use Prim.Native.Nat.{ℕ}
 use lib.ListN.{getD}
+use borrow.Author.Needs.{needs}
 use Rattle.words.proofs.Bytes.{Byte}
 use Rattle.table_check.proofs.RequestWords.{context-words}
-use mathlib.Core.Path.{sym, _∙_}
-use borrow.Author.Needs.{needs}
 use Rattle.table_check.proofs.request.good_context.Statement.{statement}
 use Rattle.table_check.proofs.request.good_context.Tie as tie
 

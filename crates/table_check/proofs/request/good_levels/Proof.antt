@@ -1,7 +1,7 @@
--- `crate::request::good_levels` meets its contract.
+-- `table_check::request::good_levels` meets its contract.
 -- Assumes nothing.
-use Rattle.table_check.specs.RequestWords.{goodLevelWords}
 use borrow.Author.Needs.{needs}
+use Rattle.table_check.specs.RequestWords.{goodLevelWords}
 use Rattle.table_check.proofs.request.good_levels.Statement.{statement}
 use Rattle.table_check.proofs.request.good_levels.Tie as tie
 

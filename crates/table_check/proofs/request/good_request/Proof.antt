@@ -1,11 +1,11 @@
--- `crate::request::good_request` meets its contract.
+-- `table_check::request::good_request` meets its contract.
 -- Assumes nothing.
 use Prim.Native.Nat.{ℕ}
+use mathlib.Core.Path.{sym}
 use lib.ListN.{getD}
+use borrow.Author.Needs.{needs}
 use Rattle.words.proofs.Bytes.{Byte}
 use Rattle.table_check.proofs.RequestWords.{request-words}
-use mathlib.Core.Path.{sym, _∙_}
-use borrow.Author.Needs.{needs}
 use Rattle.table_check.proofs.request.good_request.Statement.{statement}
 use Rattle.table_check.proofs.request.good_request.Tie as tie
 

@@ -1,9 +1,9 @@
--- `crate::request::operation` meets its contract.
+-- `table_check::request::operation` meets its contract.
 -- Assumes nothing.
 use native.Mathlib.Omega.{arith}
-use Rattle.words.proofs.Parts.{u16At-part}
 use mathlib.Core.Path.{sym, _∙_}
 use borrow.Author.Needs.{needs}
+use Rattle.words.proofs.Parts.{u16At-part}
 use Rattle.table_check.proofs.request.operation.Statement.{statement}
 use Rattle.table_check.proofs.request.operation.Tie as tie
 

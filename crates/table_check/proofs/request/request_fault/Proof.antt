@@ -1,37 +1,40 @@
--- `crate::request::request_fault` meets its contract.
+-- `table_check::request::request_fault` meets its contract.
 -- Assumes nothing.
-use borrow.Author.Tests.{eq-eqb, ne-eqb, not-true, not-false}
+use mathlib.Core.Path.{_≡_, sym, _∙_}
 use lib.ListN.{length}
-use Rattle.words.specs.First.{unless, _orElse_}
-use Rattle.words.proofs.Parts.{part-whole}
-use Rattle.format.specs.Request.{goodRequest, requestFault}
-use mathlib.Core.Path.{sym, _∙_}
+use borrow.Author.Tests.{eq-eqb, ne-eqb, not-true, not-false}
 use borrow.Author.Needs.{needs}
+use Rattle.words.proofs.First.{unless-passes, unless-fails, test-passes, test-fails}
+use Rattle.words.proofs.Parts.{part-whole}
+use Rattle.format.specs.Answer.{refusal}
+use Rattle.format.specs.Request.{goodRequest, requestFault}
 use Rattle.table_check.proofs.request.request_fault.Statement.{statement}
 use Rattle.table_check.proofs.request.request_fault.Tie as tie
 
+-- what the call says of the whole
+said : (c : tie.After-good-request) → goodRequest (c .before .before .before .args .q .now) ≡ c .good-request .result
+said c = rw (part-whole (c .before .before .before .args .q .now) 28 (c .before .if1 .left)) at (sym (c .good-request .ensures))
+
 returns : tie.Need-returns
-unfolding requestFault unless _orElse_
-returns c = rw (ne-eqb (length (c .before .before .args .q .now)) 28 (c .if1 .taken))
+unfolding requestFault
+returns c = sym (test-fails (refusal 21 0 0) _ (ne-eqb (length (c .before .before .args .q .now)) 28 (c .if1 .taken)))
 
 good-request-requires : tie.Need-good-request-requires
 good-request-requires c κs = search needs
 
 returns-2 : tie.Need-returns-2
-unfolding requestFault unless _orElse_
+unfolding requestFault
 returns-2 c =
-    let q = c .before .before .before .before .args .q .now in
-    let sized = c .before .before .if1 .left in
-    let good = rw (part-whole q 28 sized) at (c .before .good-request .ensures) in
-    rw (eq-eqb (length q) 28 sized, sym good ∙ not-true (c .before .good-request .result) (c .if2 .taken))
+    sym
+    (test-passes (refusal 21 0 0) _ (eq-eqb (length (c .before .before .before .before .args .q .now)) 28 (c .before .before .if1 .left))
+    ∙ unless-fails (refusal 22 0 0) (said (c .before) ∙ not-true (c .before .good-request .result) (c .if2 .taken)))
 
 returns-3 : tie.Need-returns-3
-unfolding requestFault unless _orElse_
+unfolding requestFault
 returns-3 c =
-    let q = c .before .before .before .before .args .q .now in
-    let sized = c .before .before .if1 .left in
-    let good = rw (part-whole q 28 sized) at (c .before .good-request .ensures) in
-    rw (eq-eqb (length q) 28 sized, sym good ∙ not-false (c .before .good-request .result) (c .if2 .left))
+    sym
+    (test-passes (refusal 21 0 0) _ (eq-eqb (length (c .before .before .before .before .args .q .now)) 28 (c .before .before .if1 .left))
+    ∙ unless-passes (refusal 22 0 0) (said (c .before) ∙ not-false (c .before .good-request .result) (c .if2 .left)))
 
 pub request-fault-spec : {M : Type 1} → statement M
 request-fault-spec = tie.close (tie.spec returns good-request-requires returns-2 returns-3)

@@ -1,9 +1,9 @@
--- `crate::request::roles` meets its contract.
+-- `table_check::request::roles` meets its contract.
 -- Assumes nothing.
 use native.Mathlib.Omega.{arith}
-use Rattle.words.proofs.Parts.{u32At-part}
 use mathlib.Core.Path.{sym, _∙_}
 use borrow.Author.Needs.{needs}
+use Rattle.words.proofs.Parts.{u32At-part}
 use Rattle.table_check.proofs.request.roles.Statement.{statement}
 use Rattle.table_check.proofs.request.roles.Tie as tie
 

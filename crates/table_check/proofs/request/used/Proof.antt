@@ -1,7 +1,7 @@
--- `crate::request::used` meets its contract.
+-- `table_check::request::used` meets its contract.
 -- Assumes nothing.
-use Rattle.table_check.specs.RequestWords.{usedWord}
 use borrow.Author.Needs.{needs}
+use Rattle.table_check.specs.RequestWords.{usedWord}
 use Rattle.table_check.proofs.request.used.Statement.{statement}
 use Rattle.table_check.proofs.request.used.Tie as tie
 

@@ -1,4 +1,4 @@
--- `crate::request::used_count` meets its contract.
+-- `table_check::request::used_count` meets its contract.
 -- Assumes nothing.
 use native.Mathlib.Omega.{arith}
 use borrow.Author.Needs.{needs}

@@ -1,7 +1,7 @@
--- `crate::request::used_levels` meets its contract.
+-- `table_check::request::used_levels` meets its contract.
 -- Assumes nothing.
-use Rattle.table_check.specs.RequestWords.{usedWords}
 use borrow.Author.Needs.{needs}
+use Rattle.table_check.specs.RequestWords.{usedWords}
 use Rattle.table_check.proofs.request.used_levels.Statement.{statement}
 use Rattle.table_check.proofs.request.used_levels.Tie as tie
 

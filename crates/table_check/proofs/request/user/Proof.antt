@@ -1,8 +1,8 @@
--- `crate::request::user` meets its contract.
+-- `table_check::request::user` meets its contract.
 -- Assumes nothing.
 use mathlib.Core.Path.{sym, _∙_}
-use Rattle.table_check.proofs.RequestWords.{user-at}
 use borrow.Author.Needs.{needs}
+use Rattle.table_check.proofs.RequestWords.{user-at}
 use Rattle.table_check.proofs.request.user.Statement.{statement}
 use Rattle.table_check.proofs.request.user.Tie as tie
 

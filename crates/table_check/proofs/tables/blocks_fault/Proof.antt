@@ -1,0 +1,129 @@
+-- `table_check::tables::blocks_fault` meets its contract.
+-- Assumes nothing.
+use Prim.Native.Nat.{_-_, _*_, _≤_}
+use native.Mathlib.Omega.{arith}
+use mathlib.Core.Path.{_≡_, refl, sym, ap, _∙_}
+use lib.ListN.{length-take, length-drop}
+use borrow.Author.Needs.{needs}
+use Rattle.words.specs.Lists.{anyBelow}
+use Rattle.words.specs.First.{first}
+use Rattle.words.proofs.Parts.{part-to}
+use Rattle.words.proofs.First.{first-start, first-hit, first-more, first-done}
+use Rattle.format.specs.Block.{block, blocks}
+use Rattle.format.specs.Policy.{policyOf, stamp as stampOf}
+use Rattle.format.specs.Table.{tableBlockFault}
+use Rattle.table_check.specs.CheckParts.{shortBefore, tableFaultIn}
+use Rattle.format.specs.Code.{faultOf}
+use Rattle.table_check.proofs.TableBlock.{fault-of-block, short-more}
+use Rattle.table_check.proofs.tables.blocks_fault.Statement.{statement}
+use Rattle.table_check.proofs.tables.blocks_fault.Tie as tie
+
+abbrev Inv-loop : tie.InvT-loop
+Inv-loop policy rules stamp table n short₀ k₀ short k = (k ≤ n) × ((short ≡ shortBefore table k) × (first (tableBlockFault (policyOf policy) (stampOf policy) table) k (n - k) ≡ first (tableBlockFault (policyOf policy) (stampOf policy) table) 0 n))
+
+abbrev μ-loop : tie.MeasureT-loop
+μ-loop policy rules stamp table n short₀ k₀ short k = n - k
+
+-- what `block_fault` answers is the fault of block k of the table
+fault : (c : tie.After-block-fault Inv-loop μ-loop) →
+    let a = c .before .before .before .before .before .before .args in
+    faultOf (c .block-fault .result) ≡ tableBlockFault (policyOf (a .policy .now)) (stampOf (a .policy .now)) (a .table .now) (c .before .before .before .loop .k)
+fault c =
+    let a = c .before .before .before .before .before .before .args in
+    let l = c .before .before .before .loop in
+    let e : faultOf (c .block-fault .result) ≡ tableFaultIn (policyOf (a .policy .now)) (stampOf (a .policy .now)) (shortBefore (a .table .now) (l .k)) (l .k) (blocks (a .table .now)) (block (a .table .now) (l .k)) =
+    rw (part-to (a .table .now) (512 * l .k) 512, c .before .before .before .before .before .before .pre .1 .1 .0, l .inv .1 .0) at (c .block-fault .ensures) in
+    e ∙ fault-of-block (a .table .now) (l .k) (policyOf (a .policy .now)) (stampOf (a .policy .now))
+
+loop-holds : tie.Need-loop-holds Inv-loop μ-loop
+unfolding anyBelow
+loop-holds c = let a = c .before .before .args in (omega arith, (refl, first-start (tableBlockFault (policyOf (a .policy .now)) (stampOf (a .policy .now)) (a .table .now)) (blocks (a .table .now))))
+
+mul-at : tie.Need-mul-at Inv-loop μ-loop
+mul-at c = search needs
+
+add-to : tie.Need-add-to Inv-loop μ-loop
+add-to c = search needs
+
+sub-b : tie.Need-sub-b Inv-loop μ-loop
+sub-b c = search needs
+
+part-b-start : tie.Need-part-b-start Inv-loop μ-loop
+part-b-start c = search needs
+
+part-b-end : tie.Need-part-b-end Inv-loop μ-loop
+part-b-end c = search needs
+
+cast-block-fault : tie.Need-cast-block-fault Inv-loop μ-loop
+cast-block-fault c = search needs
+
+cast-block-fault-2 : tie.Need-cast-block-fault-2 Inv-loop μ-loop
+cast-block-fault-2 c = search needs
+
+block-fault-requires : tie.Need-block-fault-requires Inv-loop μ-loop
+block-fault-requires c κs =
+    let a = c .before .before .before .before .before .args in
+    let p = c .before .before .before .before .before .pre in
+    (p .0, (p .1 .0, simp (length-take, length-drop) (omega arith)))
+
+enum-told : tie.Need-enum-told Inv-loop μ-loop
+enum-told c = search needs
+
+enum-told-2 : tie.Need-enum-told-2 Inv-loop μ-loop
+enum-told-2 c = search needs
+
+returns : tie.Need-returns Inv-loop μ-loop
+returns c =
+    let a = c .before .before .before .before .before .before .before .before .args in
+    let l = c .before .before .before .before .before .loop in
+    let e = ap faultOf (c .enum-told2 .given .1) in
+    e ∙ first-hit (tableBlockFault (policyOf (a .policy .now)) (stampOf (a .policy .now)) (a .table .now)) (l .k) (blocks (a .table .now)) (l .inv .1 .1) (omega arith) (sym (fault (c .before .before)) ∙ e)
+
+u16-at-requires : tie.Need-u16-at-requires Inv-loop μ-loop
+u16-at-requires c κs = search needs
+
+add-k : tie.Need-add-k Inv-loop μ-loop
+add-k c = search needs
+
+loop-less : tie.Need-loop-less Inv-loop μ-loop
+loop-less c = search needs
+
+loop-again : tie.Need-loop-again Inv-loop μ-loop
+loop-again c =
+    let a = c .before .before .before .before .before .before .before .before .before .args in
+    let l = c .before .before .before .before .before .before .loop in (
+      omega arith,
+      (
+        rw (l .inv .1 .0, c .u16-at .ensures .0, part-to (a .table .now) (512 * l .k) 512) (short-more (a .table .now) (l .k)),
+        first-more (tableBlockFault (policyOf (a .policy .now)) (stampOf (a .policy .now)) (a .table .now)) (l .k) (blocks (a .table .now)) (l .inv .1 .1) (omega arith) (sym (fault (c .before .before .before)) ∙ ap faultOf (c .before .enum-told .given .1)),
+      ),
+    )
+
+returns-2 : tie.Need-returns-2 Inv-loop μ-loop
+returns-2 c =
+    let a = c .before .before .before .before .args in
+    first-done (tableBlockFault (policyOf (a .policy .now)) (stampOf (a .policy .now)) (a .table .now)) (c .before .loop .k) (blocks (a .table .now)) (c .before .loop .inv .1 .1) (c .loop-test .left)
+
+pub blocks-fault-spec : {M : Type 1} → statement M
+blocks-fault-spec =
+    tie.close
+    (tie.spec
+    Inv-loop
+    μ-loop
+    loop-holds
+    mul-at
+    add-to
+    sub-b
+    part-b-start
+    part-b-end
+    cast-block-fault
+    cast-block-fault-2
+    block-fault-requires
+    enum-told
+    enum-told-2
+    returns
+    u16-at-requires
+    add-k
+    loop-less
+    loop-again
+    returns-2)

@@ -1,0 +1,38 @@
+-- `table_check::tables::table_fault` meets its contract.
+-- Assumes nothing.
+use native.Mathlib.Omega.{arith}
+use mathlib.Core.Path.{_≡_, sym, _∙_}
+use mathlib.Core.Bool.{true}
+use borrow.Author.Tests.{not-true, not-false}
+use borrow.Author.Needs.{needs}
+use Rattle.words.proofs.First.{test-fails, test-passes}
+use Rattle.format.specs.Answer.{refusal}
+use Rattle.format.specs.Block.{goodLength}
+use Rattle.format.specs.Table.{tableLengthFault, tableFault}
+use Rattle.format.proofs.Accepted.{blocked}
+use Rattle.table_check.proofs.tables.table_fault.Statement.{statement}
+use Rattle.table_check.proofs.tables.table_fault.Tie as tie
+
+sized : (c : tie.Else1) → goodLength 128 (c .before .before .before .before .args .table .now) ≡ true
+sized c = sym (c .before .good-length .ensures) ∙ not-false (c .before .good-length .result) (c .if1 .left)
+
+good-length-requires : tie.Need-good-length-requires
+good-length-requires c κs = search needs
+
+returns : tie.Need-returns
+unfolding tableFault tableLengthFault
+returns c = sym (test-fails (refusal 11 0 0) _ (sym (c .before .good-length .ensures) ∙ not-true (c .before .good-length .result) (c .if1 .taken)))
+
+blocks-fault-requires : tie.Need-blocks-fault-requires
+blocks-fault-requires c κs =
+    let p = c .before .before .before .before .pre in
+    let b = blocked 128 (c .before .before .before .before .args .table .now) (sized c) in
+    (p .0, (p .1 .0, (p .1 .1, omega (arith, b .whole-blocks, b .not-over))))
+
+returns-2 : tie.Need-returns-2
+unfolding tableFault tableLengthFault
+returns-2 c = c .blocks-fault .ensures ∙ sym (test-passes (refusal 11 0 0) _ (sized (c .before)))
+
+pub table-fault-spec : {M : Type 1} → statement M
+table-fault-spec =
+    tie.close (tie.spec good-length-requires returns blocks-fault-requires returns-2)
