@@ -1,0 +1,52 @@
+-- `engine::checks::fresh_reply` meets its contract.
+-- Assumes nothing.
+use mathlib.Core.Path.{_≡_, sym, ap, _∙_}
+use native.Mathlib.Omega.{arith}
+use borrow.Author.Tests.{not-true, not-false}
+use Rattle.format.specs.Code.{faultOf}
+use Rattle.engine.proofs.Checked.{fresh-length, fresh-written, good-blocked}
+use borrow.Author.Needs.{needs}
+use Rattle.engine.proofs.checks.fresh_reply.Statement.{statement}
+use Rattle.engine.proofs.checks.fresh_reply.Tie as tie
+
+good-length-requires : tie.Need-good-length-requires
+good-length-requires c κs = search needs
+
+same-length : tie.Need-same-length
+same-length c = search needs
+
+returns : tie.Need-returns
+returns c = fresh-length _ _ (c .before .before .before .before .before .pre .0) (sym (c .before .good-length .ensures) ∙ not-true _ (c .if1 .taken))
+
+capacity-requires : tie.Need-capacity-requires
+capacity-requires c κs = omega (arith, good-blocked 128 _ (sym (c .before .good-length .ensures) ∙ not-false _ (c .if1 .left)) .2)
+
+fresh-requires : tie.Need-fresh-requires
+fresh-requires c κs = let e = c .before .before in sym (e .before .good-length .ensures) ∙ not-false _ (e .if1 .left)
+
+cast-t16 : tie.Need-cast-t16
+cast-t16 c =
+    let e = c .before .before .before .before .before in
+    omega (arith, c .before .before .before .before .capacity .ensures, good-blocked 128 _ (sym (e .before .good-length .ensures) ∙ not-false _ (e .if1 .left)) .2)
+
+same-length-2 : tie.Need-same-length-2
+same-length-2 c = search needs
+
+returns-2 : tie.Need-returns-2
+returns-2 c =
+    let e = c .before .before .before .before .before in
+    let start = e .before .before .before .before .before in
+    fresh-written _ _ _ _ _ (start .pre .0) (sym (e .before .good-length .ensures) ∙ not-false _ (e .if1 .left)) (c .before .before .before .before .capacity .ensures) (c .before .before .fresh .ensures) (start .pre .1)
+
+pub fresh-reply-spec : {M : Type 1} → statement M
+fresh-reply-spec =
+    tie.close
+    (tie.spec
+    good-length-requires
+    same-length
+    returns
+    capacity-requires
+    fresh-requires
+    cast-t16
+    same-length-2
+    returns-2)
