@@ -44,3 +44,6 @@ module _ {policy : List ℕ} {rules : ℕ} {q : List ℕ} (g : Given policy rule
   unfolding goodRule ruleAt
   rule-depth i h =
       leb-true (byteAt (block policy i) 8) 4 (both-first _ _ (both-first _ _ (both-first _ _ (both-first _ _ (rule-good policy (g .accepted) i (omega arith))))))
+
+  pub few-of : policyOf policy .rules ≤ 32
+  few-of = omega (arith, rules-of policy, rules-most policy (g .accepted))
