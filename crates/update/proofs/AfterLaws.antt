@@ -3,16 +3,19 @@
 use Prim.Native.Nat.{ℕ, _+_, _-_, _*_, _/_, _<_, _≤_}
 use native.Mathlib.Omega.{arith}
 use mathlib.Core.Path.{_≡_, refl, sym, ap, ap₂, _∙_}
+use mathlib.Core.Bool.{cond}
 use mathlib.Core.List.{List, [], _∷_, _++_, map, append-nil}
-use lib.ListN.{length, length-append}
+use lib.ListN.{length, length-append, length-map}
+use lib.Dec.{eqb}
 use Rattle.words.specs.Sums.{Sums}
+use Rattle.words.proofs.Keep.{keep-split}
 use Rattle.words.proofs.Every.{Every}
 use Rattle.words.proofs.Bytes.{Byte}
 use Rattle.format.specs.Layout.{blockBytes, blockRecords, requestBytes, tableBlocks, mostRules, capacity}
 use Rattle.format.specs.Block.{blocks, block}
 use Rattle.format.specs.Request.{Request}
 use Rattle.format.specs.Policy.{Policy, policyOf}
-use Rattle.format.specs.Table.{Record, tableImage}
+use Rattle.format.specs.Table.{Record, hasMark, tableImage}
 use Rattle.format.specs.Place.{recordsHere}
 use Rattle.judge.specs.NewTable.{sweep}
 use Rattle.table_write.specs.Writing.{countIn, ImageOutside}
@@ -21,7 +24,7 @@ use Rattle.table_write.proofs.TableWritten.{image-at, image-kept}
 use Rattle.update.specs.Cleared.{clearedBy, afterBy}
 use Rattle.update.proofs.Standing.{Standing}
 use Rattle.update.proofs.Unchanged.{unchanged}
-use Rattle.update.proofs.Compaction.{sweep-none, sweep-one, length-here}
+use Rattle.update.proofs.Compaction.{sweep-none, sweep-one, length-here, length-swept}
 
 -- ---- one block written
 
@@ -63,6 +66,25 @@ module _ (p : Policy) (q : Request) (ends : ℕ) where
       → afterBy p q ends gives rs ≡ sweep (map (clearedBy p q ends) rs) ++ (record { request = q; marks = gives } ∷ [])
   unfolding afterBy
   after-one gives rs z = rw (sweep-one (record { request = q; marks = gives }) z)
+
+  -- their number
+  pub kept-few : (rs : List Record) → length (sweep (map (clearedBy p q ends) rs)) ≤ length rs
+  unfolding sweep
+  kept-few rs = omega (arith, keep-split hasMark (map (clearedBy p q ends) rs), length-map rs (clearedBy p q ends))
+
+  pub after-count : (gives : ℕ) (rs : List Record) → (gives ≡ 0 → ⊥) → length (afterBy p q ends gives rs) ≡ length (sweep (map (clearedBy p q ends) rs)) + 1
+  after-count gives rs z =
+      ap length (after-one gives rs z) ∙ length-append (sweep (map (clearedBy p q ends) rs)) (record { request = q; marks = gives } ∷ [])
+
+  pub after-few : (gives : ℕ) (rs : List Record) → length (afterBy p q ends gives rs) ≤ length rs + cond (eqb gives 0) 0 1
+  unfolding afterBy
+  after-few gives rs =
+      omega (
+        arith,
+        kept-few rs,
+        length-append (sweep (map (clearedBy p q ends) rs)) (sweep (record { request = q; marks = gives } ∷ [])),
+        length-swept (record { request = q; marks = gives }),
+      )
 
   module _ (s t₁ : List ℕ) (n held : ℕ) (front : recordsHere t₁ held ≡ sweep (map (clearedBy p q ends) (recordsHere s n))) where
     pub length-none : (gives : ℕ) → gives ≡ 0 → held ≡ length (afterBy p q ends gives (recordsHere s n))

@@ -47,6 +47,14 @@ pub sweep-one : (r : Record) → (r .marks ≡ 0 → ⊥) → sweep (r ∷ []) �
 unfolding sweep keep
 sweep-one r e = rw (ne-eqb (r .marks) 0 e)
 
+pub length-swept : (r : Record) → length (sweep (r ∷ [])) ≡ cond (eqb (r .marks) 0) 0 1
+unfolding sweep keep
+length-swept r = go (eqb (r .marks) 0)
+  where
+    go : (b : Bool) → length (cond (not b) (r ∷ []) []) ≡ cond b 0 1
+    go true = refl
+    go false = refl
+
 pub sweep-append : (rs ss : List Record) → sweep (rs ++ ss) ≡ sweep rs ++ sweep ss
 unfolding sweep
 sweep-append rs ss = keep-append hasMark rs ss

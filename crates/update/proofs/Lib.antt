@@ -4,3 +4,6 @@ pub mod Compaction
 pub mod Standing
 pub mod Unchanged
 pub mod AfterLaws
+pub mod Judged
+pub mod Outcomes
+pub mod Updates
