@@ -1,0 +1,9 @@
+pub mod Policies
+pub mod Masks
+pub mod Compaction
+pub mod Standing
+pub mod Unchanged
+pub mod AfterLaws
+pub mod Judged
+pub mod Outcomes
+pub mod Updates

@@ -1,0 +1,49 @@
+-- An accepted table is the image of the n records that stand in it, and they are those that it says.
+-- Assumes nothing.
+use Prim.Native.Nat.{ℕ, _*_, _≤_}
+use native.Mathlib.Omega.{arith}
+use mathlib.Core.Path.{_≡_, sym, ap, ap₂, _∙_}
+use mathlib.Core.Bool.{true}
+use mathlib.Core.List.{List}
+use lib.ListN.{length}
+use Rattle.words.specs.Sums.{Sums}
+use Rattle.words.proofs.Every.{Every}
+use Rattle.words.proofs.Bytes.{Byte}
+use Rattle.format.specs.Layout.{blockBytes, tableBlocks, capacity}
+use Rattle.format.specs.Block.{blocks}
+use Rattle.format.specs.Policy.{policyOf, stamp}
+use Rattle.format.specs.Table.{Record, goodRecord, recordsOf, tableImage}
+use Rattle.format.specs.Place.{recordsHere}
+use Rattle.format.proofs.RecordImage.{Whole}
+use Rattle.format.proofs.Accepted.{accepted-length, accepted-image, accepted-records}
+use Rattle.table_write.proofs.Places.{image-here}
+use Rattle.update.specs.Standing.{Stands}
+
+pub record Standing (policy : List ℕ) (t : Sums) (s : List ℕ) (n : ℕ) : Type 0 where
+  pub image : s ≡ tableImage t (blocks s) (recordsHere s n)
+  pub here : recordsHere s n ≡ recordsOf s
+  pub good : Every (λ r. goodRecord (policyOf policy) r ≡ true) (recordsHere s n)
+  pub whole : Every Whole (recordsHere s n)
+  pub long : length s ≡ blockBytes * blocks s
+  pub few : blocks s ≤ tableBlocks
+  pub fit : n ≤ capacity (blocks s)
+
+pub standing : {policy : List ℕ} {t : Sums} {s : List ℕ} {n : ℕ} → Every Byte s → Stands policy t s n → Standing policy t s n
+standing {policy} {t} {s} {n} bytes st =
+    let a = st .accepted-table in
+    let l = accepted-length policy s a in
+    let f = accepted-records policy s bytes a in
+    let e = accepted-image policy s bytes a in
+    let here : recordsHere s n ≡ recordsOf s =
+    ap (λ (x : List ℕ). recordsHere x n) (sym e)
+    ∙ ap (recordsHere (tableImage (stamp policy) (blocks s) (recordsOf s))) (st .held-are)
+    ∙ image-here (stamp policy) (blocks s) (recordsOf s) (f .whole) (f .fit) in
+    record {
+      image = sym e ∙ ap₂ {C = List ℕ} (λ x rs. tableImage x (blocks s) rs) (sym (st .stamp-is)) (sym here);
+      here = here;
+      good = rw here (f .good);
+      whole = rw here (f .whole);
+      long = l .whole-blocks;
+      few = l .not-over;
+      fit = omega (arith, st .held-are, f .fit);
+    }

@@ -1,0 +1,95 @@
+-- Steps 4 and 5 as the code takes them: the bits that it makes of the judging rules, the table that it leaves, and its answer.
+-- Assumes nothing.
+use Prim.Native.Nat.{ℕ, _+_, _-_, _*_, _≤_, _<_}
+use native.Mathlib.Omega.{arith}
+use mathlib.Core.Path.{_≡_, refl, sym, ap, ap₂, _∙_}
+use mathlib.Core.Bool.{Bool, true, false, cond, not}
+use mathlib.Core.List.{List, [], _∷_}
+use lib.ListN.{length}
+use lib.Dec.{eqb, leb}
+use borrow.Author.Tests.{not-true, not-false, leb-true}
+use Rattle.words.specs.Bytes.{bit, bits}
+use Rattle.words.specs.Sums.{Sums}
+use Rattle.words.proofs.Bits.{bit-bits}
+use Rattle.format.specs.Answer.{Answer, grant, refuse, refusal, Outcome}
+use Rattle.format.specs.Layout.{capacity}
+use Rattle.format.specs.Block.{blocks}
+use Rattle.format.specs.Policy.{Policy, policyOf, stamp}
+use Rattle.format.specs.Table.{Record, recordsOf, tableImage}
+use Rattle.format.specs.Place.{recordsHere}
+use Rattle.judge.specs.Verdict.{judges}
+use Rattle.judge.specs.NewTable.{openIn, recordOf, sweep, newTable, tableAfter}
+use Rattle.update.specs.Cleared.{Given, endsBy, givesBy, afterBy}
+use Rattle.update.specs.Updating.{judgingOf, updateOf}
+use Rattle.update.proofs.Policies.{rules-of}
+use Rattle.update.proofs.Standing.{Standing}
+use Rattle.update.proofs.Compaction.{length-here, length-swept}
+use Rattle.update.proofs.AfterLaws.{after-few}
+use Rattle.update.proofs.Judged.{parts-add, record-same, after-same}
+use Rattle.update.proofs.Outcomes.{grant-numbers, full, fits-in}
+
+module _ {policy : List ℕ} {rules : ℕ} {q : List ℕ} {t : Sums} {s : List ℕ} {n judging ends : ℕ} (g : Given policy rules q)
+    (st : Standing policy t s n) (is : judging ≡ judgingOf policy s q) (es : ends ≡ bits rules (endsBy (policyOf policy) q judging)) where
+  agree : (i : ℕ) → i < policyOf policy .rules → bit i judging ≡ judges (policyOf policy .rule i) q (openIn (policyOf policy) (recordsOf s) q i)
+  unfolding judgingOf
+  agree i h =
+      ap (bit i) is ∙ bit-bits (policyOf policy .rules) (λ j. judges (policyOf policy .rule j) q (openIn (policyOf policy) (recordsOf s) q j)) i h
+
+  ends-are : ends ≡ bits (policyOf policy .rules) (endsBy (policyOf policy) q judging)
+  ends-are = es ∙ ap (λ (m : ℕ). bits m (endsBy (policyOf policy) q judging)) (g .rules-are ∙ sym (rules-of policy))
+
+  sum : ends + bits (policyOf policy .rules) (givesBy (policyOf policy) q judging) ≡ judging
+  unfolding judgingOf
+  sum =
+      ap (λ (m : ℕ). m + bits (policyOf policy .rules) (givesBy (policyOf policy) q judging)) ends-are
+      ∙ parts-add (policyOf policy) q (λ j. judges (policyOf policy .rule j) q (openIn (policyOf policy) (recordsOf s) q j)) judging is
+
+  pub ends-few : ends ≤ judging
+  ends-few = omega (arith, sum)
+
+  gives-are : judging - ends ≡ bits (policyOf policy .rules) (givesBy (policyOf policy) q judging)
+  gives-are = omega (arith, sum)
+
+  pub after-is : afterBy (policyOf policy) q ends (judging - ends) (recordsHere s n) ≡ tableAfter (policyOf policy) (recordsOf s) q
+  unfolding tableAfter
+  after-is =
+      ap₂ {C = List Record} (λ e m. afterBy (policyOf policy) q e m (recordsHere s n)) ends-are gives-are
+      ∙ ap
+      (afterBy (policyOf policy) q (bits (policyOf policy .rules) (endsBy (policyOf policy) q judging))
+      (bits (policyOf policy .rules) (givesBy (policyOf policy) q judging)))
+      (st .here)
+      ∙ after-same (policyOf policy) q (openIn (policyOf policy) (recordsOf s) q) judging agree (recordsOf s)
+
+  recorded-is : cond (eqb (judging - ends) 0) 0 1 ≡ length (sweep (recordOf (policyOf policy) q (openIn (policyOf policy) (recordsOf s) q) ∷ []))
+  recorded-is =
+      ap (λ (m : ℕ). cond (eqb m 0) 0 1) gives-are
+      ∙ sym (length-swept (record { request = q; marks = bits (policyOf policy .rules) (givesBy (policyOf policy) q judging) }))
+      ∙ ap (λ (r : Record). length (sweep (r ∷ []))) (record-same (policyOf policy) q (openIn (policyOf policy) (recordsOf s) q) judging agree)
+
+  pub held-few : {held : ℕ} → held ≡ length (afterBy (policyOf policy) q ends (judging - ends) (recordsHere s n))
+      → held ≤ n + cond (eqb (judging - ends) 0) 0 1
+  held-few e = omega (arith, after-few (policyOf policy) q ends (judging - ends) (recordsHere s n), length-here s n)
+
+  module _ {r : Bool} (room : r ≡ leb (length (afterBy (policyOf policy) q ends (judging - ends) (recordsHere s n))) (15 * blocks s)) where
+    room-is : r ≡ leb (length (tableAfter (policyOf policy) (recordsOf s) q)) (capacity (blocks s))
+    room-is = room ∙ ap (λ rs. leb (length rs) (15 * blocks s)) after-is
+
+    pub no-room : not r ≡ true → _≡_ {A = Outcome (List ℕ)} (record { answer = refuse (refusal 34 0 0); state = s }) (updateOf policy s q)
+    no-room e = full policy s q (sym room-is ∙ not-true r e)
+
+    pub room-fits : not r ≡ false → length (afterBy (policyOf policy) q ends (judging - ends) (recordsHere s n)) ≤ 15 * blocks s
+    room-fits e = leb-true _ _ (sym room ∙ not-false r e)
+
+    pub granted-is :
+        not r ≡ false → t ≡ stamp policy → {s′ : List ℕ} {held : ℕ} {x : Answer}
+        → s′ ≡ tableImage t (blocks s) (afterBy (policyOf policy) q ends (judging - ends) (recordsHere s n))
+        → held ≡ length (afterBy (policyOf policy) q ends (judging - ends) (recordsHere s n))
+        → x ≡ grant (cond (eqb (judging - ends) 0) 0 1) (n + cond (eqb (judging - ends) 0) 0 1 - held) held
+        → _≡_ {A = Outcome (List ℕ)} (record { answer = x; state = s′ }) (updateOf policy s q)
+    unfolding tableAfter
+    granted-is e stamped {s′} {held} {x} es′ eh ex =
+        fits-in policy s q x s′ (sym room-is ∙ not-false r e)
+        (ex
+        ∙ grant-numbers (policyOf policy) q (openIn (policyOf policy) (recordsOf s) q) (recordsOf s) n _ held
+        (sym (length-here s n) ∙ ap length (st .here)) recorded-is (eh ∙ ap length after-is))
+        (es′ ∙ ap₂ {C = List ℕ} (λ y rs. tableImage y (blocks s) rs) stamped after-is)

@@ -1,0 +1,77 @@
+-- `crate::table_after::settle` meets its contract: the record stays out, or moves to its new place.
+-- Assumes nothing.
+use Prim.Native.Nat.{ℕ, _+_, _*_, _<_}
+use native.Mathlib.Omega.{arith}
+use mathlib.Core.Path.{_≡_, ap, ap₂, _∙_}
+use mathlib.Core.List.{List, _++_}
+use Rattle.words.specs.Bytes.{bytes4, part}
+use Rattle.format.specs.Block.{blocks}
+use Rattle.format.specs.Policy.{policyOf}
+use Rattle.format.specs.Place.{recordPlace, recordFrom, recordHere}
+use Rattle.table_write.specs.Writing.{over}
+use Rattle.update.specs.Cleared.{clearedBy}
+use Rattle.update.proofs.Compaction.{dropped, moved}
+use borrow.Author.Needs.{needs}
+use Rattle.update.proofs.table_after.settle.Statement.{statement}
+use Rattle.update.proofs.table_after.settle.Tie as tie
+
+record-place-requires : tie.Need-record-place-requires
+record-place-requires c κs = search needs
+
+cleared-marks-requires : tie.Need-cleared-marks-requires
+cleared-marks-requires c κs = search needs
+
+same-length : tie.Need-same-length
+same-length c = search needs
+
+marks-are : (c : tie.After-cleared-marks) → let a = c .before .before .before .before .before .before .args in
+    c .cleared-marks .result ≡ clearedBy (policyOf (a .policy .now)) (a .q .now) (a .ends) (recordHere (a .table .now) (a .i)) .marks
+marks-are c =
+    let a = c .before .before .before .before .before .before .args in
+    c .cleared-marks .ensures
+    ∙ ap (λ at. clearedBy (policyOf (a .policy .now)) (a .q .now) (a .ends) (recordFrom (a .table .now) at) .marks) (c .before .before .record-place .ensures)
+
+returns : tie.Need-returns
+returns c =
+    let a = c .before .before .before .before .before .before .before .args in
+    dropped (policyOf (a .policy .now)) (a .q .now) (a .ends) (a .table .now) (a .i) (a .j) (c .before .cleared-marks .result) (marks-are (c .before)) (c .if1 .taken)
+
+record-place-requires-2 : tie.Need-record-place-requires-2
+record-place-requires-2 c κs = search needs
+
+move-record-requires : tie.Need-move-record-requires
+move-record-requires c κs = search needs
+
+add-result : tie.Need-add-result
+add-result c = search needs
+
+same-length-2 : tie.Need-same-length-2
+same-length-2 c = search needs
+
+returns-2 : tie.Need-returns-2
+returns-2 c =
+    let m = c .before .before in
+    let d = m .before .before .before in
+    let k = d .before in
+    let s = k .before .before .before .before .before .before in
+    let a = s .args in
+    let t = a .table .now in
+    let marks = k .cleared-marks .result in
+    moved (policyOf (a .policy .now)) (a .q .now) (a .ends) t _ (blocks t) (a .i) (a .j) marks
+    (s .pre .1 .0 .0) (s .pre .1 .1 .0) (s .pre .1 .1 .1) (marks-are k) (d .if1 .left) (k .cleared-marks .ok)
+    (m .move-record .ensures
+    ∙ ap₂ {C = List ℕ} (λ to from. over t to 32 (part t from 28 ++ bytes4 marks)) (m .before .record-place2 .ensures) (k .before .before .record-place .ensures))
+
+pub settle-spec : {M : Type 1} → statement M
+settle-spec =
+    tie.close
+    (tie.spec
+    record-place-requires
+    cleared-marks-requires
+    same-length
+    returns
+    record-place-requires-2
+    move-record-requires
+    add-result
+    same-length-2
+    returns-2)

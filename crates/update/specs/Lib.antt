@@ -1,0 +1,3 @@
+pub mod Cleared
+pub mod Standing
+pub mod Updating
