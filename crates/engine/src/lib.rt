@@ -2,4 +2,5 @@
 // of any length and content, requires nothing, and promises by an equation its answer and every lent byte afterwards.
 pub mod blocks;
 pub mod checks;
+pub mod deciding;
 pub mod reply;

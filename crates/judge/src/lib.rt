@@ -1,1 +1,1 @@
-// The judgement of one request over a policy and a table. So far specs/ and proofs/ alone.
+// The judgement of one request over a policy and a table: definitions. The code is above this crate.

@@ -1,0 +1,65 @@
+// The boundary for other languages: the four entry points as C functions, and one struct by value. include/sod.h says what a caller owes.
+ghost use mathlib.Core.Path.{_≡_};
+ghost use Rattle.format.specs.Calls.{checkPolicy, checkTable, makeTable};
+ghost use Rattle.engine.specs.Code.{answerOf};
+ghost use Rattle.sod.specs.Code.{fourOf, four, left};
+use engine::checks::check_policy;
+use engine::checks::check_table;
+use engine::checks::make_table;
+use engine::reply::Reply;
+
+// An answer in four numbers: 0 and what acceptance or a grant returns, or a refusal's number and its two places.
+#[repr(C)]
+pub struct SodReply {
+    pub number: u32,
+    pub first: u32,
+    pub second: u32,
+    pub third: u32,
+}
+
+// An answer as C has it.
+pub fn reply_of(answer: Reply) -> SodReply
+    ensures { λ r. ⌜ fourOf r ≡ four (answerOf answer) ⌝ }
+{
+    match answer {
+        Reply::Accepted(n) => SodReply {
+            number: 0,
+            first: n,
+            second: 0,
+            third: 0,
+        },
+        Reply::Granted(g) => SodReply {
+            number: 0,
+            first: g.recorded,
+            second: g.removed,
+            third: g.held,
+        },
+        Reply::Refused(r) => SodReply {
+            number: r.number,
+            first: r.first,
+            second: r.second,
+            third: 0,
+        },
+    }
+}
+
+#[no_mangle]
+pub extern "C" fn sod_check_policy(policy: &[u8]) -> SodReply
+    ensures { λ r. ⌜ fourOf r ≡ four (checkPolicy (now (policy .entry))) ⌝ }
+{
+    reply_of(check_policy(policy))
+}
+
+#[no_mangle]
+pub extern "C" fn sod_check_table(policy: &[u8], table: &[u8]) -> SodReply
+    ensures { λ r. ⌜ fourOf r ≡ four (checkTable (now (policy .entry)) (now (table .entry))) ⌝ }
+{
+    reply_of(check_table(policy, table))
+}
+
+#[no_mangle]
+pub extern "C" fn sod_fresh_table(policy: &[u8], table: &mut [u8]) -> SodReply
+    ensures { λ r. ⌜ left (fourOf r) (now (table .exit)) ≡ left (four (makeTable (now (policy .entry)) (now (table .entry)) .answer)) (makeTable (now (policy .entry)) (now (table .entry)) .state) ⌝ }
+{
+    reply_of(make_table(policy, table))
+}

@@ -1,0 +1,125 @@
+-- The tally of an exclusion from what its code takes in: all the active roles, and how often each member word was done.
+-- Assumes nothing.
+use Prim.Native.Nat.{ℕ, _+_, _-_, _*_, _≤_, _<_, min}
+use native.Mathlib.Nat.{zero-add}
+use native.Mathlib.Omega.{arith}
+use mathlib.Core.Path.{_≡_, refl, sym, ap, ap₂, _∙_}
+use mathlib.Core.Bool.{Bool, true, false, cond, _&&_, _||_}
+use mathlib.Core.List.{List}
+use borrow.Author.Tests.{leb-true, eq-eqb, ne-eqb}
+use lib.ListN.{length, getD}
+use lib.Dec.{eqb, leb, ltb}
+use Rattle.words.specs.Lists.{tab, keep, anyOf, anyBelow, sumBelow, allBelow}
+use Rattle.words.specs.Bytes.{u16At, u32At, byteAt, bit}
+use Rattle.words.proofs.Every.{Every, every-weaken, keep-same}
+use Rattle.words.proofs.Lists.{getD-tab}
+use Rattle.words.proofs.Bits.{anyBelow-same}
+use Rattle.words.proofs.Tests.{both-first, both-second, allBelow-at}
+use Rattle.format.specs.Request.{Request, roles, hasRole}
+use Rattle.format.specs.Rule.{Exclusion, exclusionAt, privilegeAt, samePrivilege, blankPrivilege, goodExclusion, goodRoles, goodPrivileges}
+use Rattle.judge.specs.Tally.{does, roleTally, timesListed, timesDone, repeats, privilegeTally, tally}
+use Rattle.verdict.specs.Code.{membersAt, memberWord, allRoles, rolesAmong, allDone, doneWord, listedWord, repeatsWord, memberCounts, membersCount}
+use Rattle.verdict.proofs.Sums.{sumBelow-same}
+use Rattle.verdict.proofs.Counts.{allDone-at}
+use Rattle.verdict.proofs.Halves.{OfBytes, does-word, same-word}
+use Rattle.verdict.proofs.OrBits.{no-bit, bit-allRoles}
+
+-- ---- what the check of an exclusion says of it
+
+module _ (x : Exclusion) (good : goodExclusion x ≡ true) where
+  kinds : Bool
+  kinds = (eqb (x .kind) 1 && goodRoles x) || (eqb (x .kind) 2 && goodPrivileges x)
+
+  front : eqb (x .pad) 0 && leb 2 (x .m) && leb (x .m) (x .n) && leb (x .n) 8 && kinds ≡ true
+  unfolding goodExclusion kinds
+  front = both-first _ (allBelow 8 (λ i. ltb i (x .n) || blankPrivilege (x .member i))) good
+
+  pub n-most : x .n ≤ 8
+  n-most =
+      leb-true (x .n) 8
+      (both-second (eqb (x .pad) 0 && leb 2 (x .m) && leb (x .m) (x .n)) _
+      (both-first (eqb (x .pad) 0 && leb 2 (x .m) && leb (x .m) (x .n) && leb (x .n) 8) kinds front))
+
+  pub kind-one-roles : x .kind ≡ 1 → goodRoles x ≡ true
+  unfolding kinds
+  kind-one-roles e =
+      go (x .kind) e (goodRoles x) (goodPrivileges x)
+      (both-second (eqb (x .pad) 0 && leb 2 (x .m) && leb (x .m) (x .n) && leb (x .n) 8) kinds front)
+    where
+      go : (k : ℕ) → k ≡ 1 → (r p : Bool) → (eqb k 1 && r) || (eqb k 2 && p) ≡ true → r ≡ true
+      go k h true p t = refl
+      go k h false p t = rw h at t
+
+  -- members are roles 1 to 32
+  pub role-range : x .kind ≡ 1 → (i : ℕ) → i < x .n → (1 ≤ x .member i .operation) × (x .member i .operation ≤ 32)
+  unfolding goodRoles
+  role-range e i h =
+      let a = leb 1 (x .member i .operation) in
+      let b = leb (x .member i .operation) 32 in
+      let t = allBelow-at (x .n) i _ (kind-one-roles e) h in
+      let f = both-first (a && b) _ (both-first (a && b && eqb (x .member i .target) 0) _ t) in
+      (leb-true 1 (x .member i .operation) (both-first a b f), leb-true (x .member i .operation) 32 (both-second a b f))
+
+module _ (b : List ℕ) (e : ℕ) (qs : List Request) where
+  -- ---- kind 1
+
+  pub roles-tally : rolesAmong b e (exclusionAt b e .n) (allRoles 0 qs) ≡ roleTally (exclusionAt b e) qs
+  unfolding rolesAmong roleTally hasRole
+  roles-tally =
+      sumBelow-same (exclusionAt b e .n) _ _
+      (λ i h.
+      let k = u16At b (60 + 36 * e + 4 * i) - 1 in
+      ap (λ (t : Bool). cond t 1 0) (bit-allRoles k 0 qs ∙ ap (λ (t : Bool). t || anyOf (λ q. bit k (roles q)) qs) (no-bit k)))
+
+  -- ---- kind 2
+
+  module _ (bytes : OfBytes b) (each : Every OfBytes qs) (few : exclusionAt b e .n ≤ 8) where
+    x : Exclusion
+    x = exclusionAt b e
+
+    ms : List ℕ
+    ms = membersAt b e
+
+    member-at : (i : ℕ) → i < 8 → getD ms i 0 ≡ memberWord b e i
+    unfolding ms membersAt
+    member-at i h = getD-tab (memberWord b e) 0 8 i 0 h ∙ ap (memberWord b e) (zero-add i)
+
+    member-same : (i j : ℕ) → i < 8 → j < 8 → eqb (getD ms i 0) (getD ms j 0) ≡ samePrivilege (x .member i) (x .member j)
+    unfolding x
+    member-same i j hi hj =
+        rw (member-at i hi, member-at j hj) (sym (same-word b (60 + 36 * e + 4 * i) (60 + 36 * e + 4 * j) bytes))
+
+    repeats-same : (i : ℕ) → i < 8 → repeatsWord ms i ≡ repeats x i
+    unfolding repeatsWord repeats
+    repeats-same i h = anyBelow-same i _ _ (λ j k. member-same j i (omega arith) h)
+
+    listed-same : (i : ℕ) → i < 8 → listedWord ms (x .n) i ≡ timesListed x (x .member i)
+    unfolding listedWord timesListed x
+    listed-same i h = sumBelow-same (x .n) _ _ (λ j k. ap (λ (t : Bool). cond t 1 0) (member-same j i (omega arith) h))
+
+    done-same : (i : ℕ) → i < 8 → getD (allDone ms qs) i 0 ≡ timesDone (x .member i) qs
+    unfolding timesDone x
+    done-same i h =
+        allDone-at ms qs i h
+        ∙ ap length (keep-same _ _ (every-weaken (λ q hq. ap (λ (w : ℕ). eqb (doneWord q) w) (member-at i h) ∙ sym (does-word b q (60 + 36 * e + 4 * i) bytes hq)) each))
+
+    pub privileges-tally : membersCount (membersAt b e) (exclusionAt b e .n) (allDone (membersAt b e) qs) ≡ privilegeTally (exclusionAt b e) qs
+    unfolding membersCount privilegeTally memberCounts ms x
+    privileges-tally =
+        sumBelow-same (x .n) _ _
+        (λ i h. rw (repeats-same i (omega arith), listed-same i (omega arith), done-same i (omega arith)))
+
+-- ---- the tally, by its kind
+
+module _ (b : List ℕ) (e : ℕ) (qs : List Request) (n r : ℕ) (same-n : n ≡ exclusionAt b e .n) where
+  pub tally-one : (all : ℕ) → exclusionAt b e .kind ≡ 1 → all ≡ allRoles 0 qs → r ≡ rolesAmong b e n all → r ≡ tally (exclusionAt b e) qs
+  unfolding tally
+  tally-one all k f g = rw (eq-eqb (exclusionAt b e .kind) 1 k) (g ∙ ap₂ {C = ℕ} (rolesAmong b e) same-n f ∙ roles-tally b e qs)
+
+  pub tally-two :
+      (ms done : List ℕ) → (exclusionAt b e .kind ≡ 1 → ⊥) → OfBytes b → Every OfBytes qs → n ≤ 8
+      → ms ≡ membersAt b e → done ≡ allDone ms qs → r ≡ membersCount ms n done → r ≡ tally (exclusionAt b e) qs
+  unfolding tally
+  tally-two ms done k bytes each few f g h =
+      rw (ne-eqb (exclusionAt b e .kind) 1 k)
+      (h ∙ ap₂ {C = ℕ} (λ l d. membersCount l n d) f (g ∙ ap (λ (l : List ℕ). allDone l qs) f) ∙ ap (λ (k : ℕ). membersCount (membersAt b e) k (allDone (membersAt b e) qs)) same-n ∙ privileges-tally b e qs bytes each (rw same-n at few))

@@ -1,0 +1,16 @@
+pub mod AcceptedEntries
+pub mod AnyOf
+pub mod Counts
+pub mod Cut
+pub mod Exclusions
+pub mod Filled
+pub mod Gather
+pub mod Halves
+pub mod Nested
+pub mod OrBits
+pub mod Permissions
+pub mod Searching
+pub mod Standing
+pub mod Sums
+pub mod Taken
+pub mod VerdictRows

@@ -1,0 +1,33 @@
+-- `crate::tallies::reaches` meets its contract.
+-- Assumes nothing.
+use Rattle.judge.specs.Tally.{reached}
+use lib.Dec.{leb}
+use mathlib.Core.Bool.{Bool}
+use mathlib.Core.Path.{_≡_, ap₂}
+use borrow.Author.Needs.{needs}
+use Rattle.verdict.proofs.tallies.reaches.Statement.{statement}
+use Rattle.verdict.proofs.tallies.reaches.Tie as tie
+
+mul-wide : tie.Need-mul-wide
+mul-wide c = search needs
+
+add-wide : tie.Need-add-wide
+add-wide c = search needs
+
+shared-slice-read-wide : tie.Need-shared-slice-read-wide
+shared-slice-read-wide c = search needs
+
+wide-requires : tie.Need-wide-requires
+wide-requires c κs = search needs
+
+tally-of-requires : tie.Need-tally-of-requires
+tally-of-requires c κs = search needs
+
+returns : tie.Need-returns
+unfolding reached
+returns c = ap₂ {C = Bool} leb (c .before .wide .ensures .0) (c .tally-of .ensures)
+
+pub reaches-spec : {M : Type 1} → statement M
+reaches-spec =
+    tie.close
+    (tie.spec mul-wide add-wide shared-slice-read-wide wide-requires tally-of-requires returns)

@@ -1,0 +1,2 @@
+pub mod tallies;
+pub mod verdicts;
