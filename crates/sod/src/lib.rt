@@ -1,11 +1,13 @@
 // The boundary for other languages: the four entry points as C functions, and one struct by value. include/sod.h says what a caller owes.
 ghost use mathlib.Core.Path.{_≡_};
 ghost use Rattle.format.specs.Calls.{checkPolicy, checkTable, makeTable};
+ghost use Rattle.judge.specs.Decide.{decide as decideOf};
 ghost use Rattle.engine.specs.Code.{answerOf};
 ghost use Rattle.sod.specs.Code.{fourOf, four, left};
 use engine::checks::check_policy;
 use engine::checks::check_table;
 use engine::checks::make_table;
+use engine::deciding::decide;
 use engine::reply::Reply;
 
 // An answer in four numbers: 0 and what acceptance or a grant returns, or a refusal's number and its two places.
@@ -62,4 +64,11 @@ pub extern "C" fn sod_fresh_table(policy: &[u8], table: &mut [u8]) -> SodReply
     ensures { λ r. ⌜ left (fourOf r) (now (table .exit)) ≡ left (four (makeTable (now (policy .entry)) (now (table .entry)) .answer)) (makeTable (now (policy .entry)) (now (table .entry)) .state) ⌝ }
 {
     reply_of(make_table(policy, table))
+}
+
+#[no_mangle]
+pub extern "C" fn sod_decide(policy: &[u8], table: &mut [u8], request: &[u8]) -> SodReply
+    ensures { λ r. ⌜ left (fourOf r) (now (table .exit)) ≡ left (four (decideOf (now (policy .entry)) (now (table .entry)) (now (request .entry)) .answer)) (decideOf (now (policy .entry)) (now (table .entry)) (now (request .entry)) .state) ⌝ }
+{
+    reply_of(decide(policy, table, request))
 }

@@ -1,8 +1,8 @@
 -- The table that each of the three ways of writing leaves.
 -- Assumes nothing.
-use Prim.Native.Nat.{ℕ, _+_, _-_, _*_, _/_, _<_, _≤_}
+use Prim.Native.Nat.{ℕ, _+_, _*_, _/_, _<_, _≤_}
 use native.Mathlib.Omega.{arith}
-use mathlib.Core.Path.{_≡_, refl, sym, ap, ap₂, _∙_}
+use mathlib.Core.Path.{_≡_, sym, ap, ap₂, _∙_}
 use mathlib.Core.Bool.{cond}
 use mathlib.Core.List.{List, [], _∷_, _++_, map, append-nil}
 use lib.ListN.{length, length-append, length-map}
@@ -11,7 +11,7 @@ use Rattle.words.specs.Sums.{Sums}
 use Rattle.words.proofs.Keep.{keep-split}
 use Rattle.words.proofs.Every.{Every}
 use Rattle.words.proofs.Bytes.{Byte}
-use Rattle.format.specs.Layout.{blockBytes, blockRecords, requestBytes, tableBlocks, mostRules, capacity}
+use Rattle.format.specs.Layout.{blockBytes, blockRecords, requestBytes, mostRules, capacity}
 use Rattle.format.specs.Block.{blocks, block}
 use Rattle.format.specs.Request.{Request}
 use Rattle.format.specs.Policy.{Policy, policyOf}

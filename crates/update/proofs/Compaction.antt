@@ -1,9 +1,8 @@
 -- Records moved to the front: after i records those that keep a mark stand in front, and the later ones are untouched.
 -- Assumes nothing.
-use Prim.Native.Nat.{ℕ, suc, _+_, _*_, _<_, _≤_}
+use Prim.Native.Nat.{ℕ, _+_, _*_, _<_, _≤_}
 use native.Mathlib.Nat.{zero-add}
 use native.Mathlib.Numerals.{add-one}
-use native.Mathlib.Decide.{decLt}
 use native.Mathlib.Omega.{arith}
 use mathlib.Core.Path.{_≡_, refl, sym, ap, ap₂, _∙_}
 use mathlib.Core.Bool.{Bool, true, false, cond, not}
@@ -21,7 +20,7 @@ use Rattle.format.specs.Table.{Record, hasMark}
 use Rattle.format.specs.Place.{recordHere, recordsHere}
 use Rattle.judge.specs.NewTable.{sweep}
 use Rattle.table_write.proofs.Parts.{tab-more}
-use Rattle.table_write.proofs.Places.{recordPut, length-request, here-put, here-kept, records-more}
+use Rattle.table_write.proofs.Places.{recordPut, length-request, here-kept, records-more}
 use Rattle.update.specs.Cleared.{clearedBy, Settled}
 
 -- ---- lists of records

@@ -1,16 +1,15 @@
 -- What steps 4 and 5 answer: the three numbers, and the refusal 34.
 -- Assumes nothing.
-use Prim.Native.Nat.{ℕ, _+_, _-_, _*_, _≤_}
+use Prim.Native.Nat.{ℕ, _+_, _-_}
 use native.Mathlib.Omega.{arith}
-use mathlib.Core.Path.{_≡_, refl, sym, ap, _∙_}
+use mathlib.Core.Path.{_≡_}
 use mathlib.Core.Bool.{Bool, true, false, cond, not}
-use mathlib.Core.List.{List, [], _∷_, _++_, map}
+use mathlib.Core.List.{List, [], _∷_, map}
 use lib.ListN.{length, length-append, length-map}
 use lib.Dec.{eqb, leb}
 use borrow.Author.Tests.{eq-eqb, ne-eqb}
 use Rattle.words.specs.Lists.{keep}
 use Rattle.words.specs.First.{unless}
-use Rattle.words.specs.Sums.{Sums}
 use Rattle.words.proofs.Keep.{keep-split}
 use Rattle.format.specs.Answer.{Answer, grant, refuse, refusal, Outcome, refusing}
 use Rattle.format.specs.Layout.{capacity}

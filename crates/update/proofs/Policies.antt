@@ -3,19 +3,16 @@
 use Prim.Native.Nat.{ℕ, _+_, _*_, _<_, _≤_}
 use native.Mathlib.Omega.{arith}
 use mathlib.Core.Path.{_≡_, refl}
-use mathlib.Core.Bool.{Bool, true, cond, _&&_}
 use mathlib.Core.List.{List}
 use mathlib.Core.Option.{none}
 use borrow.Author.Tests.{leb-true}
 use lib.ListN.{length}
-use lib.Dec.{leb, ltb}
-use Rattle.words.specs.Lists.{allBelow}
 use Rattle.words.specs.Bytes.{byteAt}
 use Rattle.words.proofs.First.{none-first, passes-unless}
 use Rattle.words.proofs.Tests.{both-first}
-use Rattle.format.specs.Layout.{blockBytes, policyBlocks}
-use Rattle.format.specs.Block.{blocks, block, goodLength}
-use Rattle.format.specs.Rule.{Rule, ruleAt, goodRule, goodLevel, blankLevel, goodSteps}
+use Rattle.format.specs.Layout.{policyBlocks}
+use Rattle.format.specs.Block.{blocks, block}
+use Rattle.format.specs.Rule.{ruleAt, goodRule}
 use Rattle.format.specs.Policy.{policyFault, policyOf, ruleCount}
 use Rattle.format.proofs.Accepted.{Blocked, blocked}
 use Rattle.format.proofs.AcceptedPolicy.{rules-few, rules-most, rule-good}
@@ -24,10 +21,6 @@ use Rattle.update.specs.Cleared.{Given}
 pub rules-of : (s : List ℕ) → policyOf s .rules ≡ ruleCount s
 unfolding policyOf
 rules-of s = refl
-
-pub rule-of : (s : List ℕ) (i : ℕ) → policyOf s .rule i ≡ ruleAt (block s i)
-unfolding policyOf
-rule-of s i = refl
 
 pub policy-blocked : (s : List ℕ) → policyFault s ≡ none → Blocked policyBlocks s
 unfolding policyFault

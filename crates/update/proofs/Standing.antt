@@ -12,7 +12,7 @@ use Rattle.words.proofs.Bytes.{Byte}
 use Rattle.format.specs.Layout.{blockBytes, tableBlocks, capacity}
 use Rattle.format.specs.Block.{blocks}
 use Rattle.format.specs.Policy.{policyOf, stamp}
-use Rattle.format.specs.Table.{Record, goodRecord, recordsOf, tableImage}
+use Rattle.format.specs.Table.{goodRecord, recordsOf, tableImage}
 use Rattle.format.specs.Place.{recordsHere}
 use Rattle.format.proofs.RecordImage.{Whole}
 use Rattle.format.proofs.Accepted.{accepted-length, accepted-image, accepted-records}

@@ -6,18 +6,18 @@ use native.Mathlib.Decide.{decLt}
 use native.Mathlib.Omega.{arith}
 use mathlib.Core.Path.{_≡_, refl, sym, ap, _∙_}
 use mathlib.Core.Bool.{Bool, true, false, cond, not, _&&_, _||_}
-use mathlib.Core.List.{List, [], _∷_, map}
+use mathlib.Core.List.{List, map}
 use lib.Dec.{eqb, ltb}
 use lib.Pow.{mod-pow-add}
-use borrow.Author.Tests.{not-true, ltb-true}
-use Rattle.words.specs.Lists.{keep, allBelow}
+use borrow.Author.Tests.{ltb-true}
+use Rattle.words.specs.Lists.{keep}
 use Rattle.words.specs.Bytes.{bit, bits}
 use Rattle.words.proofs.Bits.{bit-beyond, bits-same}
-use Rattle.words.proofs.Every.{Every, empty, more, every-both, every-weaken}
+use Rattle.words.proofs.Every.{Every, empty, more, every-both}
 use Rattle.words.proofs.Tests.{both-first, both-second, allBelow-at}
 use Rattle.format.specs.Layout.{mostRules}
 use Rattle.format.specs.Request.{Request, goodRequest}
-use Rattle.format.specs.Fits.{fits, samePlace}
+use Rattle.format.specs.Fits.{fits}
 use Rattle.format.specs.Policy.{Policy}
 use Rattle.format.specs.Table.{Record, marked, hasMark, goodMarks, goodRecord}
 use Rattle.format.proofs.RecordImage.{Whole}

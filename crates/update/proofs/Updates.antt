@@ -2,7 +2,7 @@
 -- Assumes nothing.
 use Prim.Native.Nat.{ℕ, _+_, _-_, _*_, _≤_, _<_}
 use native.Mathlib.Omega.{arith}
-use mathlib.Core.Path.{_≡_, refl, sym, ap, ap₂, _∙_}
+use mathlib.Core.Path.{_≡_, sym, ap, ap₂, _∙_}
 use mathlib.Core.Bool.{Bool, true, false, cond, not}
 use mathlib.Core.List.{List, [], _∷_}
 use lib.ListN.{length}
@@ -14,11 +14,11 @@ use Rattle.words.proofs.Bits.{bit-bits}
 use Rattle.format.specs.Answer.{Answer, grant, refuse, refusal, Outcome}
 use Rattle.format.specs.Layout.{capacity}
 use Rattle.format.specs.Block.{blocks}
-use Rattle.format.specs.Policy.{Policy, policyOf, stamp}
+use Rattle.format.specs.Policy.{policyOf, stamp}
 use Rattle.format.specs.Table.{Record, recordsOf, tableImage}
 use Rattle.format.specs.Place.{recordsHere}
 use Rattle.judge.specs.Verdict.{judges}
-use Rattle.judge.specs.NewTable.{openIn, recordOf, sweep, newTable, tableAfter}
+use Rattle.judge.specs.NewTable.{openIn, recordOf, sweep, tableAfter}
 use Rattle.update.specs.Cleared.{Given, endsBy, givesBy, afterBy}
 use Rattle.update.specs.Updating.{judgingOf, updateOf}
 use Rattle.update.proofs.Policies.{rules-of}

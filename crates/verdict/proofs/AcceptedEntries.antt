@@ -2,19 +2,18 @@
 -- Assumes nothing.
 use Prim.Native.Nat.{ℕ, _+_, _*_, _≤_, _<_}
 use native.Mathlib.Omega.{arith}
-use mathlib.Core.Path.{_≡_, refl, sym, ap, _∙_}
-use mathlib.Core.Bool.{Bool, true, false, cond, _&&_, _||_}
+use mathlib.Core.Path.{_≡_, sym, ap, _∙_}
+use mathlib.Core.Bool.{true, cond, _&&_}
 use mathlib.Core.List.{List}
 use mathlib.Core.Option.{none}
 use borrow.Author.Tests.{leb-true}
 use lib.ListN.{length}
 use lib.Dec.{eqb, leb}
-use Rattle.words.specs.First.{_orElse_, unless, first}
 use Rattle.words.specs.Bytes.{byteAt}
 use Rattle.words.proofs.First.{none-first, none-second, passes-unless, none-at}
 use Rattle.words.proofs.Tests.{both-first, both-second}
 use Rattle.format.specs.Layout.{ruleKind, permissionKind, policyBlocks, highestRole}
-use Rattle.format.specs.Block.{blocks, block, kind, goodLength}
+use Rattle.format.specs.Block.{blocks, block, kind}
 use Rattle.format.specs.Rule.{Rule, exclusionAt, ruleAt, goodRule, goodExclusion, ruleFault}
 use Rattle.format.specs.Policy.{Permission, policyFault, policyBlockFault, permissionFault, permissionAt, goodPermission, goodPermissionBytes, entries, ruleCount}
 use Rattle.format.proofs.Accepted.{Blocked, blocked}

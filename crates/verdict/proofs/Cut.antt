@@ -5,7 +5,6 @@ use native.Mathlib.Omega.{arith}
 use mathlib.Core.Path.{_≡_}
 use mathlib.Core.List.{List}
 use lib.ListN.{length, take, drop, length-take, length-drop}
-use Rattle.words.specs.Bytes.{part}
 use Rattle.format.specs.Block.{block}
 
 pub cut : {A : Type 0} (s : List A) (at n : ℕ) → take (at + n - at) (drop at s) ≡ take n (drop at s)

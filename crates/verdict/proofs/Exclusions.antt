@@ -1,6 +1,6 @@
 -- The tally of an exclusion from what its code takes in: all the active roles, and how often each member word was done.
 -- Assumes nothing.
-use Prim.Native.Nat.{ℕ, _+_, _-_, _*_, _≤_, _<_, min}
+use Prim.Native.Nat.{ℕ, _+_, _-_, _*_, _≤_, _<_}
 use native.Mathlib.Nat.{zero-add}
 use native.Mathlib.Omega.{arith}
 use mathlib.Core.Path.{_≡_, refl, sym, ap, ap₂, _∙_}
@@ -9,19 +9,19 @@ use mathlib.Core.List.{List}
 use borrow.Author.Tests.{leb-true, eq-eqb, ne-eqb}
 use lib.ListN.{length, getD}
 use lib.Dec.{eqb, leb, ltb}
-use Rattle.words.specs.Lists.{tab, keep, anyOf, anyBelow, sumBelow, allBelow}
-use Rattle.words.specs.Bytes.{u16At, u32At, byteAt, bit}
+use Rattle.words.specs.Lists.{anyOf, allBelow}
+use Rattle.words.specs.Bytes.{u16At, bit}
 use Rattle.words.proofs.Every.{Every, every-weaken, keep-same}
 use Rattle.words.proofs.Lists.{getD-tab}
 use Rattle.words.proofs.Bits.{anyBelow-same}
 use Rattle.words.proofs.Tests.{both-first, both-second, allBelow-at}
 use Rattle.format.specs.Request.{Request, roles, hasRole}
-use Rattle.format.specs.Rule.{Exclusion, exclusionAt, privilegeAt, samePrivilege, blankPrivilege, goodExclusion, goodRoles, goodPrivileges}
-use Rattle.judge.specs.Tally.{does, roleTally, timesListed, timesDone, repeats, privilegeTally, tally}
+use Rattle.format.specs.Rule.{Exclusion, exclusionAt, samePrivilege, blankPrivilege, goodExclusion, goodRoles, goodPrivileges}
+use Rattle.judge.specs.Tally.{roleTally, timesListed, timesDone, repeats, privilegeTally, tally}
 use Rattle.verdict.specs.Code.{membersAt, memberWord, allRoles, rolesAmong, allDone, doneWord, listedWord, repeatsWord, memberCounts, membersCount}
 use Rattle.verdict.proofs.Sums.{sumBelow-same}
 use Rattle.verdict.proofs.Counts.{allDone-at}
-use Rattle.verdict.proofs.Halves.{OfBytes, does-word, same-word}
+use Rattle.verdict.proofs.Privileges.{OfBytes, does-word, same-word}
 use Rattle.verdict.proofs.OrBits.{no-bit, bit-allRoles}
 
 -- ---- what the check of an exclusion says of it

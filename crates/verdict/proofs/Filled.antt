@@ -1,23 +1,18 @@
 -- A list that is replaced from the front, element by element, by f 0, f 1, ..
 -- Assumes nothing.
-use Prim.Native.Nat.{ℕ, zero, suc, _+_, _≤_, _<_}
-use native.Mathlib.Nat.{add-zero, zero-add}
+use Prim.Native.Nat.{ℕ, suc, _+_, _≤_, _<_}
+use native.Mathlib.Nat.{zero-add}
 use native.Mathlib.Numerals.{add-one}
 use native.Mathlib.Omega.{arith}
-use mathlib.Core.Path.{_≡_, refl, sym, ap, _∙_}
-use mathlib.Core.List.{List, [], _∷_, _++_, append-assoc, append-nil}
-use lib.ListN.{length, getD, take, drop, set, drop-of-length-le, length-append, length-drop}
+use mathlib.Core.Path.{_≡_, refl, sym, _∙_}
+use mathlib.Core.List.{List, _++_, append-nil}
+use lib.ListN.{length, getD, drop, set, drop-of-length-le, length-append, length-drop}
 use lib.Seq.{append-snoc, drop-cons, getD-at, set-at}
 use Rattle.words.specs.Lists.{tab}
 use Rattle.words.proofs.Lists.{length-tab}
+use Rattle.table_write.proofs.Parts.{tab-more}
 
 module _ {A : Type 0} (f : ℕ → A) where
-  -- one more at the end
-  pub tab-snoc : (k n : ℕ) → tab f k (suc n) ≡ tab f k n ++ (f (k + n) ∷ [])
-  unfolding tab
-  tab-snoc k zero = rw (add-zero k)
-  tab-snoc k (suc n) = let e : k + suc n ≡ suc k + n = omega arith in rw (tab-snoc (suc k) n, e)
-
   -- the first j of them are replaced
   abbrev pub filled : List A → ℕ → List A
   filled d j = tab f 0 j ++ drop j d
@@ -33,7 +28,7 @@ module _ {A : Type 0} (f : ℕ → A) where
 
   pub filled-more : (d l : List A) (j : ℕ) (v : A) → l ≡ filled d j → v ≡ f j → j < length d → set l j v ≡ filled d (j + 1)
   filled-more d l j v e g h =
-      rw (e, g, drop-cons d j v h, set-at (tab f 0 j) (getD d j v) (drop (suc j) d) (f j) j (length-tab f 0 j), add-one j, tab-snoc 0 j, zero-add j)
+      rw (e, g, drop-cons d j v h, set-at (tab f 0 j) (getD d j v) (drop (suc j) d) (f j) j (length-tab f 0 j), add-one j, tab-more f 0 j, zero-add j)
       (sym (append-snoc (tab f 0 j) (f j) (drop (suc j) d)))
 
   pub filled-all : (d l : List A) (j n : ℕ) → l ≡ filled d j → j ≡ n → length d ≤ n → l ≡ tab f 0 n

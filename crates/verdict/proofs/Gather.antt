@@ -1,6 +1,6 @@
 -- A run that is gathered from a table: each place is written behind those that are kept, and counted if its record passes.
 -- Assumes nothing.
-use Prim.Native.Nat.{ℕ, zero, suc, _+_, _≤_, _<_}
+use Prim.Native.Nat.{ℕ, _+_, _≤_, _<_}
 use native.Mathlib.Nat.{add-zero, zero-add}
 use native.Mathlib.Numerals.{add-one}
 use native.Mathlib.Decide.{decLt}
@@ -18,8 +18,8 @@ use Rattle.format.specs.Request.{Request}
 use Rattle.format.specs.Table.{Record}
 use Rattle.format.specs.Place.{recordPlace, recordFrom, recordHere, recordsHere}
 use Rattle.judge.specs.Tally.{sameUser}
-use Rattle.verdict.specs.Code.{Places, Holds, recordsFrom, userRecords, standsAt}
-use Rattle.verdict.proofs.Filled.{tab-snoc}
+use Rattle.verdict.specs.Code.{Holds, recordsFrom, userRecords, standsAt}
+use Rattle.table_write.proofs.Parts.{tab-more}
 
 module _ (table : List ℕ) (t : Record → Bool) where
   -- nothing yet
@@ -72,7 +72,7 @@ module _ (table : List ℕ) (t : Record → Bool) where
 -- the next record of a table, and of a run
 pub records-more : (table : List ℕ) (k : ℕ) → recordsHere table (k + 1) ≡ recordsHere table k ++ (recordHere table k ∷ [])
 unfolding recordsHere
-records-more table k = rw (add-one k, tab-snoc (recordHere table) 0 k, zero-add k)
+records-more table k = rw (add-one k, tab-more (recordHere table) 0 k, zero-add k)
 
 pub run-more : (table run : List ℕ) (k : ℕ) → k < length run → recordsFrom table run (k + 1) ≡ recordsFrom table run k ++ (recordFrom table (getD run k 0) ∷ [])
 run-more table run k h = rw (add-one k, take-suc run k 0 h) (map-append (recordFrom table) (take k run) (getD run k 0 ∷ []))

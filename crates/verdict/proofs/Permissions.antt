@@ -1,13 +1,13 @@
 -- Step 1: a policy permits a request where an entry of one of its blocks grants it.
 -- Assumes nothing.
-use Prim.Native.Nat.{ℕ, _+_, _-_, _*_, _<_, _≤_}
+use Prim.Native.Nat.{ℕ, _+_, _-_, _*_, _<_}
 use native.Mathlib.Omega.{arith}
 use mathlib.Core.Path.{_≡_, refl, sym, ap, _∙_}
-use mathlib.Core.Bool.{Bool, true, false, cond, _&&_}
+use mathlib.Core.Bool.{Bool, true, false, _&&_}
 use mathlib.Core.List.{List}
 use borrow.Author.Tests.{eq-eqb, ne-eqb}
 use lib.Dec.{eqb}
-use Rattle.words.specs.Lists.{tab, anyOf, anyBelow}
+use Rattle.words.specs.Lists.{anyOf, anyBelow}
 use Rattle.words.specs.Bytes.{u16At, u32At, bit}
 use Rattle.format.specs.Layout.{permissionKind}
 use Rattle.format.specs.Block.{blocks, block, kind}
@@ -17,7 +17,7 @@ use Rattle.judge.specs.Verdict.{grants, permitted}
 use Rattle.verdict.specs.Code.{doneWord, entriesOf}
 use Rattle.verdict.proofs.Sums.{any-hit, any-miss, any-none}
 use Rattle.verdict.proofs.AnyOf.{any-tab, any-flatten}
-use Rattle.verdict.proofs.Halves.{OfBytes, halves}
+use Rattle.verdict.proofs.Privileges.{OfBytes, halves}
 
 and-assoc : (x y z : Bool) → x && (y && z) ≡ x && y && z
 and-assoc true y z = refl

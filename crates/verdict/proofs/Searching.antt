@@ -2,20 +2,19 @@
 -- Assumes nothing.
 use Prim.Native.Nat.{ℕ, _+_, _-_, _*_, _≤_, _<_}
 use native.Mathlib.Omega.{arith}
-use mathlib.Core.Path.{_≡_, refl, sym, ap, ap₂, _∙_, subst, subst⁻¹}
-use mathlib.Core.Bool.{Bool, true, false, cond, not}
+use mathlib.Core.Path.{_≡_, sym, ap, ap₂, _∙_, subst, subst⁻¹}
+use mathlib.Core.Bool.{Bool, true, false, cond}
 use mathlib.Core.List.{List, [], _∷_, _++_, map}
 use mathlib.Core.Option.{Option, none, some}
 use lib.ListN.{length, take}
 use lib.Dec.{eqb}
 use Rattle.words.specs.Lists.{keep}
 use Rattle.words.specs.First.{unless, first}
-use Rattle.words.specs.Bytes.{byteAt, part, bit}
+use Rattle.words.specs.Bytes.{byteAt, bit}
 use Rattle.words.proofs.Parts.{byteAt-part}
 use Rattle.words.proofs.Keep.{map-map}
 use Rattle.words.proofs.First.{first-more}
 use Rattle.format.specs.Answer.{Refusal, refusal}
-use Rattle.format.specs.Layout.{requestBytes}
 use Rattle.format.specs.Block.{block}
 use Rattle.format.specs.Request.{Request}
 use Rattle.format.specs.Rule.{exclusionAt, goodExclusion}
@@ -23,12 +22,12 @@ use Rattle.format.specs.Policy.{policyFault, ruleCount}
 use Rattle.format.specs.Table.{Record}
 use Rattle.format.specs.Place.{recordFrom}
 use Rattle.judge.specs.Tally.{reached, exclusionNumber}
-use Rattle.verdict.specs.Code.{requestsAt, taken, Places, Holds, standsAt, countedAt, failsAt, ruleFails, maskFails, failingOf, FoundIn}
+use Rattle.verdict.specs.Code.{requestsAt, taken, Holds, standsAt, countedAt, failsAt, ruleFails, maskFails, failingOf, FoundIn}
 use Rattle.verdict.specs.declared.verdicts.Failing.{Failing}
 use Rattle.verdict.specs.declared.verdicts.Failing.the-variants.{At}
 use Rattle.verdict.proofs.Cut.{length-block}
 use Rattle.verdict.proofs.AcceptedEntries.{rule-inside, exclusions-most, exclusion-fits}
-use Rattle.verdict.proofs.Nested.{left, row-enter, row-hit, row-more}
+use Rattle.verdict.proofs.Nested.{left, row-enter}
 
 -- what a run holds is what the exclusions of its rule count
 pub counted-taken :

@@ -1,6 +1,6 @@
 -- Step 2: the search of a table for a record that stands in a run place, and the rules that judge.
 -- Assumes nothing.
-use Prim.Native.Nat.{ℕ, zero, suc, _+_, _-_, _*_, _/_, _%_, _^_, _<_, _≤_}
+use Prim.Native.Nat.{ℕ, suc, _+_, _*_, _%_, _^_, _<_, _≤_}
 use native.Mathlib.Nat.{pow-suc}
 use native.Mathlib.Numerals.{add-one}
 use native.Mathlib.Omega.{arith}
@@ -12,7 +12,7 @@ use lib.ListN.{length}
 use lib.Pow.{pow-lt, pow-mono}
 use Rattle.words.specs.Bytes.{byteAt, bits}
 use Rattle.words.proofs.Bits.{bits-below}
-use Rattle.words.specs.Lists.{tab, anyOf, anyBelow}
+use Rattle.words.specs.Lists.{anyOf, anyBelow}
 use Rattle.format.specs.Request.{Request}
 use Rattle.format.specs.Rule.{ruleAt, isSet}
 use Rattle.format.specs.Fits.{fits, samePlace}

@@ -1,14 +1,14 @@
 -- Steps 1 to 3 from what their code finds: the mask of the rules that judge, and the search over one user's records.
 -- Assumes nothing.
-use Prim.Native.Nat.{ℕ, _+_, _≤_, _<_}
+use Prim.Native.Nat.{ℕ, _<_}
 use native.Mathlib.Omega.{arith}
 use mathlib.Core.Path.{_≡_, refl, sym, ap, ap₂, _∙_}
-use mathlib.Core.Bool.{Bool, true, false, cond, not, _&&_}
+use mathlib.Core.Bool.{Bool, true, false, cond, _&&_}
 use mathlib.Core.List.{List, [], _∷_, _++_, map}
 use mathlib.Core.Option.{Option, none, some}
 use Rattle.words.specs.Lists.{keep}
 use Rattle.words.specs.First.{_orElse_, unless, first}
-use Rattle.words.specs.Bytes.{byteAt, bit, bits}
+use Rattle.words.specs.Bytes.{byteAt, bit}
 use Rattle.words.proofs.Every.{every-all, keep-same}
 use Rattle.words.proofs.Keep.{keep-keep, keep-map}
 use Rattle.words.proofs.First.{first-same, first-none}
@@ -16,10 +16,10 @@ use Rattle.words.proofs.Bits.{bit-bits}
 use Rattle.format.specs.Answer.{Refusal, refusal}
 use Rattle.format.specs.Block.{block}
 use Rattle.format.specs.Request.{Request, user}
-use Rattle.format.specs.Rule.{ruleAt, exclusionAt}
+use Rattle.format.specs.Rule.{ruleAt}
 use Rattle.format.specs.Policy.{Policy, policyOf, ruleCount}
 use Rattle.format.specs.Table.{Record}
-use Rattle.judge.specs.Tally.{sameUser, counted, reached, exclusionNumber}
+use Rattle.judge.specs.Tally.{sameUser, counted}
 use Rattle.judge.specs.Verdict.{permitted, judges, failing, verdict}
 use Rattle.judge.specs.NewTable.{standsIn, openIn, pastIn}
 use Rattle.verdict.specs.Code.{standsAt, judgingIn, userRecords, countedAt, failsAt, ruleFails, maskFails, VerdictIs}

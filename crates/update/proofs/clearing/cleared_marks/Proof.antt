@@ -1,9 +1,9 @@
 -- `crate::clearing::cleared_marks` meets its contract: the marks of the rules that were looked at are kept or cleared.
 -- Assumes nothing.
-use Prim.Native.Nat.{ℕ, _+_, _-_, _≤_, _<_}
+use Prim.Native.Nat.{_+_, _-_, _≤_}
 use native.Mathlib.Omega.{arith}
 use mathlib.Core.Path.{_≡_, sym, ap, _∙_}
-use Rattle.words.specs.Bytes.{bits, u32At}
+use Rattle.words.specs.Bytes.{bits}
 use Rattle.format.specs.Policy.{policyOf}
 use Rattle.format.specs.Place.{recordFrom}
 use Rattle.update.specs.Cleared.{keepsBy, clearedBy}

@@ -1,6 +1,6 @@
 -- `crate::clearing::ending` meets its contract: the bits of the rules that were looked at are set.
 -- Assumes nothing.
-use Prim.Native.Nat.{ℕ, _+_, _-_, _≤_, _<_}
+use Prim.Native.Nat.{_+_, _-_, _≤_}
 use native.Mathlib.Omega.{arith}
 use mathlib.Core.Path.{_≡_, sym}
 use Rattle.words.specs.Bytes.{bits}

@@ -2,13 +2,13 @@
 -- Assumes nothing.
 use Prim.Native.Nat.{ℕ, _+_, _-_, _*_}
 use native.Mathlib.Omega.{arith}
-use mathlib.Core.Path.{_≡_, sym, ap, _∙_}
+use mathlib.Core.Path.{_≡_, ap, _∙_}
 use Rattle.words.specs.Bytes.{part}
 use Rattle.format.specs.Rule.{ruleAt}
 use Rattle.format.specs.Policy.{policyOf}
 use Rattle.judge.specs.Verdict.{isLast}
 use Rattle.update.specs.Cleared.{endsBy}
-use Rattle.update.proofs.Policies.{few-rules, rule-inside, rule-of}
+use Rattle.update.proofs.Policies.{few-rules, rule-inside}
 use Rattle.update.proofs.Masks.{first-fails, first-passes}
 use borrow.Author.Needs.{needs}
 use Rattle.update.proofs.clearing.ends_here.Statement.{statement}

@@ -1,13 +1,12 @@
 -- `crate::clearing::keeps_mark` meets its contract: the run places are looked at only where a mark is to be cleared.
 -- Assumes nothing.
 use native.Mathlib.Omega.{arith}
-use mathlib.Core.Path.{_≡_, sym, ap, _∙_}
+use mathlib.Core.Path.{ap, _∙_}
 use mathlib.Core.Bool.{not}
 use Rattle.words.specs.Bytes.{bit}
 use Rattle.update.specs.Cleared.{keepsBy}
 use Rattle.update.proofs.Policies.{few-rules}
 use Rattle.update.proofs.Masks.{first-fails, first-passes}
-use borrow.Author.Needs.{needs}
 use Rattle.update.proofs.clearing.keeps_mark.Statement.{statement}
 use Rattle.update.proofs.clearing.keeps_mark.Tie as tie
 

@@ -1,8 +1,7 @@
 -- `crate::grant::granted` meets its contract.
 -- Assumes nothing.
-use Prim.Native.Nat.{ℕ, _+_, _-_}
 use native.Mathlib.Omega.{arith}
-use mathlib.Core.Path.{_≡_, ap}
+use mathlib.Core.Path.{ap}
 use Rattle.format.specs.Answer.{Answer, grant}
 use Rattle.update.proofs.Outcomes.{recorded-none, recorded-one}
 use borrow.Author.Needs.{needs}

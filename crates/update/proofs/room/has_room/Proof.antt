@@ -1,18 +1,15 @@
 -- `crate::room::has_room` meets its contract.
 -- Assumes nothing.
-use Prim.Native.Nat.{ℕ, _+_, _*_, _≤_, _<_}
+use Prim.Native.Nat.{_*_}
 use native.Mathlib.Numerals.{add-one}
 use native.Mathlib.Omega.{arith}
-use mathlib.Core.Path.{_≡_, sym, ap, _∙_}
-use mathlib.Core.List.{map}
+use mathlib.Core.Path.{sym}
 use lib.ListN.{length}
-use lib.Dec.{leb}
 use borrow.Author.Tests.{le-leb, lt-leb}
 use Rattle.format.specs.Block.{blocks}
 use Rattle.format.specs.Policy.{policyOf, stamp}
 use Rattle.format.specs.Place.{recordsHere}
-use Rattle.judge.specs.NewTable.{sweep}
-use Rattle.update.specs.Cleared.{clearedBy, afterBy}
+use Rattle.update.specs.Cleared.{afterBy}
 use Rattle.table_write.proofs.SliceBytes.{slice-bytes}
 use Rattle.update.proofs.Policies.{few-of}
 use Rattle.update.proofs.Standing.{Standing, standing}

@@ -1,13 +1,12 @@
 -- `crate::table_after::settle` meets its contract: the record stays out, or moves to its new place.
 -- Assumes nothing.
-use Prim.Native.Nat.{ℕ, _+_, _*_, _<_}
-use native.Mathlib.Omega.{arith}
+use Prim.Native.Nat.{ℕ, _+_}
 use mathlib.Core.Path.{_≡_, ap, ap₂, _∙_}
 use mathlib.Core.List.{List, _++_}
 use Rattle.words.specs.Bytes.{bytes4, part}
 use Rattle.format.specs.Block.{blocks}
 use Rattle.format.specs.Policy.{policyOf}
-use Rattle.format.specs.Place.{recordPlace, recordFrom, recordHere}
+use Rattle.format.specs.Place.{recordFrom, recordHere}
 use Rattle.table_write.specs.Writing.{over}
 use Rattle.update.specs.Cleared.{clearedBy}
 use Rattle.update.proofs.Compaction.{dropped, moved}

@@ -1,8 +1,8 @@
 -- `crate::table_after::write_after` meets its contract: where no rule ends the records stay as they are.
 -- Assumes nothing.
-use Prim.Native.Nat.{ℕ, _+_, _*_, _<_, _≤_}
+use Prim.Native.Nat.{_*_, _<_}
 use native.Mathlib.Omega.{arith}
-use mathlib.Core.Path.{_≡_, sym, ap, _∙_}
+use mathlib.Core.Path.{sym, ap, _∙_}
 use lib.ListN.{length}
 use Rattle.words.specs.Code.{sumsOf}
 use Rattle.format.specs.Block.{blocks}

@@ -1,14 +1,10 @@
 -- `crate::table_after::write_cleared` meets its contract.
 -- Assumes nothing.
-use Prim.Native.Nat.{ℕ, _+_, _*_, _<_, _≤_}
+use Prim.Native.Nat.{_*_, _<_}
 use native.Mathlib.Omega.{arith}
-use mathlib.Core.Path.{_≡_}
-use lib.ListN.{length}
 use Rattle.words.specs.Code.{sumsOf}
 use Rattle.format.specs.Block.{blocks}
 use Rattle.format.specs.Policy.{policyOf}
-use Rattle.format.specs.Place.{recordsHere}
-use Rattle.update.specs.Cleared.{afterBy}
 use Rattle.update.proofs.AfterLaws.{length-none, length-one, image-none, image-one}
 use borrow.Author.Needs.{needs}
 use Rattle.update.proofs.table_after.write_cleared.Statement.{statement}

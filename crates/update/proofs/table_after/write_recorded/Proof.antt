@@ -1,9 +1,6 @@
 -- `crate::table_after::write_recorded` meets its contract: the other blocks are the new image's already.
 -- Assumes nothing.
-use Prim.Native.Nat.{ℕ, _+_, _*_, _/_, _≤_}
 use native.Mathlib.Omega.{arith}
-use mathlib.Core.Path.{_≡_}
-use lib.ListN.{length}
 use Rattle.words.specs.Code.{sumsOf}
 use Rattle.table_write.proofs.SliceBytes.{slice-bytes}
 use Rattle.update.proofs.AfterLaws.{one-block, image-recorded}

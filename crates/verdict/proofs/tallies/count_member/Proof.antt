@@ -1,9 +1,8 @@
--- `crate::tallies::count_member` meets its contract.
+-- `verdict::tallies::count_member` meets its contract.
 -- Assumes nothing.
 use Rattle.verdict.proofs.Counts.{repeated-counts, member-counts}
 use native.Mathlib.Omega.{arith}
-use mathlib.Core.Path.{_≡_, refl, sym, ap, _∙_}
-use Prim.Native.Nat.{ℕ, _-_, _≤_, _<_, _*_}
+use mathlib.Core.Path.{sym, _∙_}
 use borrow.Author.Needs.{needs}
 use Rattle.verdict.proofs.tallies.count_member.Statement.{statement}
 use Rattle.verdict.proofs.tallies.count_member.Tie as tie

@@ -1,11 +1,11 @@
--- `crate::tallies::count_privileges` meets its contract: the count is that of the members passed.
+-- `verdict::tallies::count_privileges` meets its contract: the count is that of the members passed.
 -- Assumes nothing.
 use Rattle.verdict.proofs.Sums.{sum-more, sum-all}
 use Rattle.verdict.specs.Code.{memberCounts, membersCount}
 use Rattle.words.specs.Lists.{sumBelow}
 use native.Mathlib.Omega.{arith}
-use mathlib.Core.Path.{_≡_, refl, sym, ap, _∙_}
-use Prim.Native.Nat.{ℕ, _-_, _≤_, _<_, _*_}
+use mathlib.Core.Path.{_≡_, refl}
+use Prim.Native.Nat.{_-_, _≤_, _*_}
 use borrow.Author.Needs.{needs}
 use Rattle.verdict.proofs.tallies.count_privileges.Statement.{statement}
 use Rattle.verdict.proofs.tallies.count_privileges.Tie as tie

@@ -1,4 +1,4 @@
--- `crate::tallies::count_roles` meets its contract: the count is that of the members passed.
+-- `verdict::tallies::count_roles` meets its contract: the count is that of the members passed.
 -- Assumes nothing.
 use Rattle.verdict.proofs.Sums.{sum-more, sum-all}
 use Rattle.verdict.specs.Code.{rolesAmong}

@@ -1,4 +1,4 @@
--- `crate::tallies::done_at` meets its contract.
+-- `verdict::tallies::done_at` meets its contract.
 -- Assumes nothing.
 use Rattle.words.proofs.Parts.{u32At-part}
 use native.Mathlib.Omega.{arith}

@@ -1,10 +1,10 @@
--- `crate::tallies::members` meets its contract: the words passed are the members.
+-- `verdict::tallies::members` meets its contract: the words passed are the members.
 -- Assumes nothing.
 use Rattle.verdict.proofs.Filled.{filled, filled-none, filled-more, filled-all}
 use Rattle.verdict.specs.Code.{membersAt, memberWord}
 use native.Mathlib.Omega.{arith}
-use mathlib.Core.Path.{_≡_, refl}
-use Prim.Native.Nat.{ℕ, _-_, _≤_, _<_}
+use mathlib.Core.Path.{_≡_}
+use Prim.Native.Nat.{_-_, _≤_}
 use borrow.Author.Needs.{needs}
 use Rattle.verdict.proofs.tallies.members.Statement.{statement}
 use Rattle.verdict.proofs.tallies.members.Tie as tie

@@ -1,9 +1,9 @@
--- `crate::tallies::reaches` meets its contract.
+-- `verdict::tallies::reaches` meets its contract.
 -- Assumes nothing.
 use Rattle.judge.specs.Tally.{reached}
 use lib.Dec.{leb}
 use mathlib.Core.Bool.{Bool}
-use mathlib.Core.Path.{_≡_, ap₂}
+use mathlib.Core.Path.{ap₂}
 use borrow.Author.Needs.{needs}
 use Rattle.verdict.proofs.tallies.reaches.Statement.{statement}
 use Rattle.verdict.proofs.tallies.reaches.Tie as tie

@@ -1,4 +1,4 @@
--- `crate::tallies::repeats` meets its contract: the flag is the test over the members passed.
+-- `verdict::tallies::repeats` meets its contract: the flag is the test over the members passed.
 -- Assumes nothing.
 use Rattle.verdict.proofs.Sums.{any-more, any-all}
 use Rattle.verdict.specs.Code.{repeatsWord}
@@ -6,8 +6,8 @@ use Rattle.words.specs.Lists.{anyBelow}
 use lib.Dec.{eqb}
 use lib.ListN.{getD}
 use native.Mathlib.Omega.{arith}
-use mathlib.Core.Path.{_≡_, refl, ap}
-use Prim.Native.Nat.{ℕ, _-_, _≤_, _<_}
+use mathlib.Core.Path.{_≡_, refl}
+use Prim.Native.Nat.{_-_, _≤_}
 use borrow.Author.Needs.{needs}
 use Rattle.verdict.proofs.tallies.repeats.Statement.{statement}
 use Rattle.verdict.proofs.tallies.repeats.Tie as tie

@@ -1,14 +1,14 @@
--- `crate::tallies::take_privileges` meets its contract: the counts are those of the places passed.
+-- `verdict::tallies::take_privileges` meets its contract: the counts are those of the places passed.
 -- Assumes nothing.
 use Rattle.format.specs.Request.{Request}
-use Rattle.verdict.proofs.Taken.{requests-none, requests-length, done-turn, done-end, done-small}
-use Rattle.verdict.proofs.Counts.{allDone-none, length-allDone, allDone-few}
+use Rattle.verdict.proofs.Taken.{requests-none, done-turn, done-end, done-small}
+use Rattle.verdict.proofs.Counts.{allDone-none}
 use Rattle.verdict.specs.Code.{requestsAt, allDone, doneWord}
 use lib.Seq.{take-all}
 use lib.ListN.{take}
 use native.Mathlib.Omega.{arith}
-use mathlib.Core.Path.{_≡_, refl, sym, ap, _∙_}
-use Prim.Native.Nat.{ℕ, _-_, _≤_, _<_}
+use mathlib.Core.Path.{_≡_, sym, ap, _∙_}
+use Prim.Native.Nat.{_-_, _≤_}
 use borrow.Author.Needs.{needs}
 use Rattle.verdict.proofs.tallies.take_privileges.Statement.{statement}
 use Rattle.verdict.proofs.tallies.take_privileges.Tie as tie

@@ -1,4 +1,4 @@
--- `crate::tallies::take_roles` meets its contract: the roles are those of the places passed.
+-- `verdict::tallies::take_roles` meets its contract: the roles are those of the places passed.
 -- Assumes nothing.
 use Rattle.verdict.proofs.Taken.{requests-none, roles-turn, roles-end}
 use Rattle.verdict.specs.Code.{requestsAt, allRoles}

@@ -1,12 +1,10 @@
--- `crate::tallies::tally_of` meets its contract.
+-- `verdict::tallies::tally_of` meets its contract.
 -- Assumes nothing.
 use Rattle.verdict.proofs.Exclusions.{n-most, role-range, tally-one, tally-two}
-use Rattle.verdict.proofs.Halves.{taken-bytes}
+use Rattle.verdict.proofs.Privileges.{taken-bytes}
 use Rattle.verdict.specs.Code.{taken}
 use Rattle.format.specs.Rule.{exclusionAt}
 use native.Mathlib.Omega.{arith}
-use mathlib.Core.Path.{_≡_, refl, sym, ap, _∙_}
-use Prim.Native.Nat.{ℕ, _≤_, _<_}
 use borrow.Author.Needs.{needs}
 use Rattle.verdict.proofs.tallies.tally_of.Statement.{statement}
 use Rattle.verdict.proofs.tallies.tally_of.Tie as tie

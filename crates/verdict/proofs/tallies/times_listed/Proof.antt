@@ -1,4 +1,4 @@
--- `crate::tallies::times_listed` meets its contract: the count is that of the members passed.
+-- `verdict::tallies::times_listed` meets its contract: the count is that of the members passed.
 -- Assumes nothing.
 use Rattle.verdict.proofs.Sums.{sum-more, sum-all}
 use Rattle.verdict.specs.Code.{listedWord}
@@ -8,7 +8,7 @@ use lib.Dec.{eqb}
 use lib.ListN.{getD}
 use native.Mathlib.Omega.{arith}
 use mathlib.Core.Path.{_≡_, refl}
-use Prim.Native.Nat.{ℕ, _-_, _≤_, _<_}
+use Prim.Native.Nat.{_-_, _≤_}
 use borrow.Author.Needs.{needs}
 use Rattle.verdict.proofs.tallies.times_listed.Statement.{statement}
 use Rattle.verdict.proofs.tallies.times_listed.Tie as tie

@@ -1,7 +1,6 @@
--- `crate::verdicts::exclusion_number` meets its contract.
+-- `verdict::verdicts::exclusion_number` meets its contract.
 -- Assumes nothing.
 use borrow.Author.Tests.{eq-eqb, ne-eqb}
-use borrow.Author.Needs.{needs}
 use Rattle.verdict.proofs.verdicts.exclusion_number.Statement.{statement}
 use Rattle.verdict.proofs.verdicts.exclusion_number.Tie as tie
 

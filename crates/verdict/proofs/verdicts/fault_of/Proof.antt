@@ -1,8 +1,7 @@
--- `crate::verdicts::fault_of` meets its contract.
+-- `verdict::verdicts::fault_of` meets its contract.
 -- Assumes nothing.
 use Rattle.verdict.proofs.Searching.{found-in, found-fault}
 use native.Mathlib.Omega.{arith}
-use mathlib.Core.Path.{_≡_, refl, sym, ap, _∙_}
 use borrow.Author.Needs.{needs}
 use Rattle.verdict.proofs.verdicts.fault_of.Statement.{statement}
 use Rattle.verdict.proofs.verdicts.fault_of.Tie as tie

@@ -1,4 +1,4 @@
--- `crate::verdicts::first_failing` meets its contract: what is left of the search says what the whole says.
+-- `verdict::verdicts::first_failing` meets its contract: what is left of the search says what the whole says.
 -- Assumes nothing.
 use Rattle.format.specs.Policy.{ruleCount}
 use Rattle.verdict.proofs.Searching.{rule-silent, rule-judges, exclusion-fails, exclusion-passes, exclusion-ready}
@@ -16,8 +16,8 @@ use borrow.Author.Tests.{not-true, not-false}
 use mathlib.Core.Option.{Option}
 use mathlib.Core.List.{List}
 use native.Mathlib.Omega.{arith}
-use mathlib.Core.Path.{_≡_, refl, sym, ap, _∙_}
-use Prim.Native.Nat.{ℕ, _+_, _-_, _*_, _≤_, _<_}
+use mathlib.Core.Path.{_≡_, sym, _∙_}
+use Prim.Native.Nat.{ℕ, _-_, _*_, _≤_, _<_}
 use borrow.Author.Needs.{needs}
 use Rattle.verdict.proofs.verdicts.first_failing.Statement.{statement}
 use Rattle.verdict.proofs.verdicts.first_failing.Tie as tie

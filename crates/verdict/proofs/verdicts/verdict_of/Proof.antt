@@ -1,8 +1,6 @@
--- `crate::verdicts::verdict_of` meets its contract.
+-- `verdict::verdicts::verdict_of` meets its contract.
 -- Assumes nothing.
 use Rattle.format.specs.Request.{Request, user as userOf}
-use mathlib.Core.List.{List}
-use Rattle.format.specs.Table.{Record}
 use lib.Seq.{take-all}
 use Rattle.verdict.proofs.VerdictRows.{verdict-refused, verdict-silent, verdict-found}
 use Rattle.verdict.specs.Code.{recordsFrom, userRecords}
@@ -11,7 +9,7 @@ use lib.ListN.{length-replicate}
 use Prim.Native.Nat.{ℕ}
 use borrow.Author.Tests.{not-true, not-false}
 use native.Mathlib.Omega.{arith}
-use mathlib.Core.Path.{_≡_, refl, sym, ap, _∙_}
+use mathlib.Core.Path.{sym, ap, _∙_}
 use borrow.Author.Needs.{needs}
 use Rattle.verdict.proofs.verdicts.verdict_of.Statement.{statement}
 use Rattle.verdict.proofs.verdicts.verdict_of.Tie as tie

@@ -1,10 +1,9 @@
--- `crate::tallies::Tally::add_privilege` meets its contract: the counts passed are the new ones, the others as they were.
+-- `verdict::tallies::Tally::add_privilege` meets its contract: the counts passed are the new ones, the others as they were.
 -- Assumes nothing.
 use Prim.Native.Nat.{ℕ, _+_, _-_, _≤_, _<_}
 use mathlib.Core.Path.{_≡_, refl, ap₂}
 use mathlib.Core.Bool.{cond}
 use mathlib.Core.List.{List}
-use native.Mathlib.Numerals.{add-one}
 use native.Mathlib.Omega.{arith}
 use borrow.Author.Needs.{needs}
 use lib.ListN.{getD}

@@ -1,0 +1,95 @@
+-- `verdict::permits::permitted` meets its contract: no block passed permits the request.
+-- Assumes nothing.
+use Rattle.verdict.proofs.Cut.{cut, length-block}
+use Rattle.verdict.proofs.AcceptedEntries.{policy-length, entries-fit}
+use Rattle.verdict.proofs.Permissions.{blockGrants, permits-hit, permits-more, permits-done}
+use Rattle.format.specs.Block.{blocks}
+use Rattle.words.specs.Lists.{anyBelow}
+use mathlib.Core.Bool.{false}
+use native.Mathlib.Omega.{arith}
+use mathlib.Core.Path.{_≡_, refl}
+use Prim.Native.Nat.{_-_, _≤_, _*_}
+use borrow.Author.Needs.{needs}
+use Rattle.verdict.proofs.permits.permitted.Statement.{statement}
+use Rattle.verdict.proofs.permits.permitted.Tie as tie
+
+abbrev Inv-loop : tie.InvT-loop
+Inv-loop policy q n k₀ k = (k ≤ n) × ((n ≡ blocks policy) × (anyBelow k (blockGrants policy q) ≡ false))
+
+abbrev μ-loop : tie.MeasureT-loop
+μ-loop policy q n k₀ k = n - k
+
+loop-holds : tie.Need-loop-holds Inv-loop μ-loop
+unfolding anyBelow
+loop-holds c = (omega arith, (omega arith, refl))
+
+mul-at : tie.Need-mul-at Inv-loop μ-loop
+mul-at c = search needs
+
+add-block-permits : tie.Need-add-block-permits Inv-loop μ-loop
+add-block-permits c = search needs
+
+sub-block-permits : tie.Need-sub-block-permits Inv-loop μ-loop
+sub-block-permits c = search needs
+
+part-block-permits-start : tie.Need-part-block-permits-start Inv-loop μ-loop
+part-block-permits-start c = search needs
+
+part-block-permits-end : tie.Need-part-block-permits-end Inv-loop μ-loop
+part-block-permits-end c = search needs
+
+block-permits-requires : tie.Need-block-permits-requires Inv-loop μ-loop
+block-permits-requires c κs =
+    let a = c .before .before .before .before .before .args in
+    let p = c .before .before .before .before .before .pre in
+    let l = c .before .before .loop in
+    let blocked = policy-length (a .policy .now) (p .0) in
+    rw (cut (a .policy .now) (512 * l .k) 512)
+    ((length-block (a .policy .now) (l .k) (omega arith), p .1), entries-fit (a .policy .now) (p .0) (l .k) (omega arith))
+
+returns : tie.Need-returns Inv-loop μ-loop
+returns c =
+    let a = c .before .before .before .before .before .before .before .args in
+    let l = c .before .before .before .before .loop in
+    let block-permits = c .before .block-permits in
+    let if1 = c .if1 in
+    permits-hit (a .policy .now) (a .q .now) (l .k) _ (block-permits .result) (omega arith) (cut (a .policy .now) (512 * l .k) 512) (block-permits .ensures) (if1 .taken)
+
+add-k : tie.Need-add-k Inv-loop μ-loop
+add-k c = search needs
+
+loop-less : tie.Need-loop-less Inv-loop μ-loop
+loop-less c = search needs
+
+loop-again : tie.Need-loop-again Inv-loop μ-loop
+loop-again c =
+    let a = c .before .before .before .before .before .before .before .args in
+    let l = c .before .before .before .before .loop in
+    let block-permits = c .before .block-permits in
+    let if1 = c .if1 in
+    (omega arith, (refl, permits-more (a .policy .now) (a .q .now) (l .k) _ (block-permits .result) (cut (a .policy .now) (512 * l .k) 512) (block-permits .ensures) (if1 .left) (l .inv .1 .1)))
+
+returns-2 : tie.Need-returns-2 Inv-loop μ-loop
+returns-2 c =
+    let a = c .before .before .before .before .args in
+    let l = c .before .loop in
+    permits-done (a .policy .now) (a .q .now) (l .k) (omega arith) (l .inv .1 .1)
+
+pub permitted-spec : {M : Type 1} → statement M
+permitted-spec =
+    tie.close
+    (tie.spec
+    Inv-loop
+    μ-loop
+    loop-holds
+    mul-at
+    add-block-permits
+    sub-block-permits
+    part-block-permits-start
+    part-block-permits-end
+    block-permits-requires
+    returns
+    add-k
+    loop-less
+    loop-again
+    returns-2)

@@ -1,0 +1,172 @@
+/*
+ * sod.h - decisions on separation of duties over many sessions.
+ *
+ * One person adjusts an instrument, another checks it, however many visits lie between the two.
+ * The engine is lent a duty policy and a table of earlier grants, takes one request, grants it or
+ * refuses it by number, and brings the table up to date. It has no state of its own, allocates
+ * nothing, opens nothing and calls nothing: all that it knows is in the bytes that it is lent.
+ *
+ * Build with target/staticlib/libsod.a (made by `rt staticlib sod`, x86-64):
+ *
+ *     cc -Iinclude program.c target/staticlib/libsod.a
+ *
+ * WHAT THE CALLER OWES
+ *
+ *   - Every pointer with its length names memory that is there: readable, and for a `uint8_t *`
+ *     (not const) writable too. Length 0 with any pointer, NULL too, is fine and gets its number.
+ *   - A table that is written to (sod_fresh_table, sod_decide) overlaps neither policy nor request.
+ *   - While a call is at work on a table, no other thread reads or writes it, and none writes the
+ *     policy or the request. Different tables may be decided on at the same time, under one policy.
+ *   - No alignment is asked.
+ *
+ * Nothing else is owed. Whatever the bytes and whatever the lengths, each call answers; it reads and
+ * writes nothing outside what it was lent, and a refused call alters no byte. This is proved of the
+ * engine, as is every number below.
+ *
+ * WHAT IS STORED WHERE
+ *
+ * All numbers are unsigned and little-endian. Policies and tables are made of blocks of 512 bytes.
+ * In every block:
+ *
+ *     0-3      kind: 1 rule, 2 table, 3 permissions
+ *     4-5      the block's number, from 0
+ *     6-7      blocks in all
+ *     504-511  check: two 32-bit numbers a, b over the 126 32-bit words before them
+ *              (a = 1, b = 0; for each word: a += word; b += a; both wrap)
+ *
+ * Bytes that are not named are zero.
+ *
+ * A policy is 1 to 64 blocks: 0 to 32 rule blocks, then permission blocks. Rule r (from 1) is block
+ * r - 1. Rule block:
+ *
+ *     8        depth, 0 to 4: how many context levels the rule is about
+ *     9        exclusions, 1 to 8
+ *     10, 11   1 if a first, a last step is set, else 0
+ *     16-47    four levels of 8: type (2, from 1), mark (1), zero (1), value (2), zero (2)
+ *              mark 1: this value only (from 1); 2: every value together; 3: each value by itself
+ *              (value 0); levels past the depth are zero
+ *     48-51    first step: operation (2), target (2), from 1; zero if not set
+ *     52-55    last step, likewise; not equal to the first
+ *     56-343   eight exclusions of 36: kind (1), m (1), n (1), zero (1), eight members of 4;
+ *              2 <= m <= n <= 8; members past n and exclusions past their number are zero
+ *              kind 1: a member is a role, 1 to 32 (2), zero (2); no role twice
+ *              kind 2: a member is operation (2), target (2), from 1; repeats count
+ *
+ * Permission block:
+ *
+ *     8-9      entries, 0 to 61
+ *     16-503   entries of 8: role 1 to 32 (2), operation (2), target (2), from 1; zero (2)
+ *
+ * A table is 1 to 128 blocks. A table of B blocks holds up to 15 times B records. Block:
+ *
+ *     8-9      records here, 0 to 15; records fill the blocks from the front with no gap
+ *     16-23    stamp: a and b over all words of the policy, its checks included
+ *     24-503   records of 32: the request (28), marks (4): rule r at bit r - 1
+ *
+ * A request is 28 bytes:
+ *
+ *     0-3      user, from 1
+ *     4-7      active roles, not zero: role k is bit k - 1
+ *     8-9      operation, from 1
+ *     10-11    target, from 1
+ *     12-27    four context levels of 4: type (2), value (2), both from 1; used levels come first,
+ *              the others are zero. No level is the whole business.
+ */
+#ifndef SOD_H
+#define SOD_H
+
+#include <stddef.h>
+#include <stdint.h>
+
+#ifdef __cplusplus
+extern "C" {
+#endif
+
+enum {
+    SOD_BLOCK = 512,             /* bytes in a block */
+    SOD_REQUEST = 28,            /* bytes in a request */
+    SOD_RECORD = 32,             /* bytes in a record */
+    SOD_RECORDS_PER_BLOCK = 15,
+    SOD_MOST_POLICY_BLOCKS = 64,
+    SOD_MOST_TABLE_BLOCKS = 128
+};
+
+/*
+ * What a call returns.
+ *
+ * number 0 is acceptance or grant. Then first, second, third are:
+ *
+ *     sod_check_policy   rules, 0, 0
+ *     sod_check_table    records, 0, 0
+ *     sod_fresh_table    places (15 times the blocks), 0, 0
+ *     sod_decide         recorded (1 if some rule will count this step, else 0),
+ *                        removed (earlier records that no rule counts any more),
+ *                        held (records in the table now)
+ *
+ * Any other number is a refusal; first and second are its places, third is 0. The first number that
+ * applies is given: those of the policy, then of the table, then of the request, then of the
+ * judgement; within policy and table block by block, and within a block upwards. Blocks count from
+ * 0; rules, exclusions, entries and records from 1.
+ */
+typedef struct {
+    uint32_t number, first, second, third;
+} sod_reply;
+
+enum {
+    /* The policy. first: the block (0 for number 1); second: as told, else 0. */
+    SOD_POLICY_LENGTH = 1,        /* not 512 times 1 to 64 bytes */
+    SOD_POLICY_CHECK = 2,         /* the check is wrong */
+    SOD_POLICY_HEADER = 3,        /* kind, number or total; rule after permissions; rule 33 */
+    SOD_POLICY_RULE = 4,          /* a rule block outside header, exclusions and check */
+    SOD_POLICY_EXCLUSION = 5,     /* second: the first bad exclusion */
+    SOD_POLICY_PERMISSION = 6,    /* second: the first bad entry; 0: a fault outside the entries */
+
+    /* The table. first: the block (0 for number 11); second: as told, else 0. */
+    SOD_TABLE_LENGTH = 11,        /* not 512 times 1 to 128 bytes */
+    SOD_TABLE_CHECK = 12,         /* the check is wrong */
+    SOD_TABLE_HEADER = 13,        /* kind, number, total, count, gap or spare bytes */
+    SOD_TABLE_STAMP = 14,         /* the table is of another policy */
+    SOD_TABLE_RECORD = 15,        /* second: the first bad record */
+
+    /* The request. 0, 0. */
+    SOD_REQUEST_LENGTH = 21,      /* not 28 bytes */
+    SOD_REQUEST_FIELD = 22,       /* a field is wrong */
+
+    /* The judgement. 0, 0 for 31 and 34. */
+    SOD_NOT_PERMITTED = 31,       /* no active role has the permission */
+    SOD_EXCLUSIVE_ROLES = 32,     /* first: the rule; second: its exclusion: with this step the
+                                     user would have been active in m of its roles */
+    SOD_EXCLUSIVE_PRIVILEGES = 33,/* the same of privileges done */
+    SOD_TABLE_FULL = 34           /* no place for the record: a bigger table is needed */
+};
+
+/* Checks a policy. Refused by 1 to 6. */
+sod_reply sod_check_policy(const uint8_t *policy, size_t policy_len);
+
+/* Checks a table under a policy. Refused by 1 to 6, 11 to 15. */
+sod_reply sod_check_table(const uint8_t *policy, size_t policy_len,
+                          const uint8_t *table, size_t table_len);
+
+/*
+ * Makes a table of no records in the lent buffer, whatever it held. Its length says how many blocks
+ * the table has. Refused by 1 to 6, 11.
+ */
+sod_reply sod_fresh_table(const uint8_t *policy, size_t policy_len,
+                          uint8_t *table, size_t table_len);
+
+/*
+ * Decides a request. On a grant the table is brought up to date: what the policy no longer counts is
+ * gone, and the request is on record if some rule counts it. Store the table before the step is
+ * taken. Refused by any number; then the table is as it was.
+ *
+ * Policy and table are checked in every call, so no call is needed before it.
+ */
+sod_reply sod_decide(const uint8_t *policy, size_t policy_len,
+                     uint8_t *table, size_t table_len,
+                     const uint8_t *request, size_t request_len);
+
+#ifdef __cplusplus
+}
+#endif
+
+#endif

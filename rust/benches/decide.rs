@@ -1,0 +1,553 @@
+//! How long the engine takes, beside the independent judge in plain Rust and beside the bare sums.
+//!
+//!     cargo bench --offline
+//!
+//! The bare sums are what no engine can spare: the check of every block of policy and table and the
+//! policy's stamp, word after word as document 01 tells them. A ratio to them says what an engine
+//! adds on any machine.
+//!
+//! Each workload is measured in rounds: in every round the engine, the Rust judge and the sums each
+//! get some calls, every call on a copy of the table of its own that was made before the clock ran.
+//! Printed is the median over the rounds of the time of one call.
+
+#[path = "../tests/support/chance.rs"]
+#[allow(dead_code)]
+mod chance;
+#[path = "../tests/independent/mod.rs"]
+mod independent;
+
+use chance::Chance;
+use hastovimen::raw;
+use independent::images::*;
+use independent::{quick, Reply};
+use std::hint::black_box;
+use std::time::Instant;
+
+fn main() {
+    let typical = Typical::new();
+    let worst = Worst::new();
+    println!("Median time of one call in microseconds; the last three columns are ratios.\n");
+    heading();
+    for workload in typical.workloads().iter().chain(&worst.workloads()) {
+        row(workload);
+    }
+    println!("\nGrowth: a refusal by 33 on a full table, by its blocks.\n");
+    heading();
+    for workload in typical.growth() {
+        row(&workload);
+    }
+}
+
+fn heading() {
+    println!(
+        "| {:<45} | {:>8} | {:>8} | {:>8} | {:>11} | {:>11} | {:>9} |",
+        "workload", "engine", "Rust", "sums", "engine/Rust", "engine/sums", "Rust/sums"
+    );
+    println!(
+        "|{:-<47}|{:->10}|{:->10}|{:->10}|{:->13}|{:->13}|{:->11}|",
+        "", ":", ":", ":", ":", ":", ":"
+    );
+}
+
+fn row(workload: &Workload) {
+    let [engine, rust, sums] = workload.measure();
+    println!(
+        "| {:<45} | {:>8.2} | {:>8.2} | {:>8.2} | {:>11.2} | {:>11.2} | {:>9.2} |",
+        workload.name,
+        engine,
+        rust,
+        sums,
+        engine / rust,
+        engine / sums,
+        rust / sums
+    );
+}
+
+// ---------------------------------------------------------------------------------------------
+// Measuring
+
+#[derive(Clone, Copy, PartialEq, Eq)]
+enum Call {
+    CheckPolicy,
+    CheckTable,
+    FreshTable,
+    Decide,
+}
+
+struct Workload {
+    name: String,
+    call: Call,
+    policy: Vec<u8>,
+    table: Vec<u8>,
+    request: Vec<u8>,
+    /// What must come of it, so that the right thing is measured.
+    expected: Reply,
+}
+
+const ROUNDS: usize = 301;
+
+impl Workload {
+    /// Microseconds for engine, Rust and sums.
+    fn measure(&self) -> [f64; 3] {
+        self.agree();
+        // As many copies as stay in the caches near the processor.
+        let copies = (256 * 1024 / (self.table.len() + 1)).clamp(1, 64);
+        let mut tables = vec![self.table.clone(); copies];
+        let mut times = [const { vec![] }; 3];
+        for _ in 0..ROUNDS {
+            times[0].push(self.time(&mut tables, |w, table| w.by_engine(table)));
+            times[1].push(self.time(&mut tables, |w, table| w.by_rust(table)));
+            times[2].push(self.time(&mut tables, |w, table| w.by_sums(table)));
+        }
+        times.map(median)
+    }
+
+    /// Microseconds of one call, when each of the tables gets one.
+    fn time<T>(&self, tables: &mut [Vec<u8>], call: impl Fn(&Workload, &mut [u8]) -> T) -> f64 {
+        for table in &mut *tables {
+            table.copy_from_slice(&self.table);
+        }
+        let begin = Instant::now();
+        for table in &mut *tables {
+            black_box(call(black_box(self), table));
+        }
+        begin.elapsed().as_secs_f64() * 1e6 / tables.len() as f64
+    }
+
+    fn by_engine(&self, table: &mut [u8]) -> raw::Reply {
+        match self.call {
+            Call::CheckPolicy => raw::check_policy(&self.policy),
+            Call::CheckTable => raw::check_table(&self.policy, table),
+            Call::FreshTable => raw::fresh_table(&self.policy, table),
+            Call::Decide => raw::decide(&self.policy, table, &self.request),
+        }
+    }
+
+    fn by_rust(&self, table: &mut [u8]) -> Reply {
+        match self.call {
+            Call::CheckPolicy => quick::check_policy(&self.policy),
+            Call::CheckTable => quick::check_table(&self.policy, table),
+            Call::FreshTable => quick::fresh_table(&self.policy, table),
+            Call::Decide => quick::decide(&self.policy, table, &self.request),
+        }
+    }
+
+    /// The check of every block, and the stamp where the call needs it.
+    fn by_sums(&self, table: &mut [u8]) -> u32 {
+        let checks = block_sums(&self.policy);
+        match self.call {
+            Call::CheckPolicy => checks,
+            _ => checks ^ fold(bare_sums(&self.policy)) ^ block_sums(table),
+        }
+    }
+
+    /// Engine and Rust give the expected answer and the same table.
+    fn agree(&self) {
+        let (mut by_engine, mut by_rust) = (self.table.clone(), self.table.clone());
+        let engine = self.by_engine(&mut by_engine);
+        let engine = Reply {
+            number: engine.number,
+            first: engine.first,
+            second: engine.second,
+            third: engine.third,
+        };
+        let rust = self.by_rust(&mut by_rust);
+        assert_eq!(
+            (engine, rust),
+            (self.expected, self.expected),
+            "{}",
+            self.name
+        );
+        assert!(by_engine == by_rust, "{}: the tables differ", self.name);
+    }
+}
+
+fn median(mut times: Vec<f64>) -> f64 {
+    times.sort_by(f64::total_cmp);
+    times[times.len() / 2]
+}
+
+fn bare_sums(bytes: &[u8]) -> (u32, u32) {
+    let (mut a, mut b) = (1u32, 0u32);
+    for word in bytes.as_chunks().0 {
+        a = a.wrapping_add(u32::from_le_bytes(*word));
+        b = b.wrapping_add(a);
+    }
+    (a, b)
+}
+
+fn fold((a, b): (u32, u32)) -> u32 {
+    a ^ b
+}
+
+fn block_sums(image: &[u8]) -> u32 {
+    let blocks = image.as_chunks::<512>().0.iter();
+    blocks.fold(0, |all, block| all ^ fold(bare_sums(&block[..504])))
+}
+
+// ---------------------------------------------------------------------------------------------
+// What is measured: typical
+
+const DEPOT: u16 = 1;
+const JOB: u16 = 2;
+const ADJUST: u16 = 1;
+const CHECK: u16 = 2;
+const PACK: u16 = 3;
+const CLOSE: u16 = 4;
+const BEGIN_COUNT: u16 = 5;
+const END_COUNT: u16 = 6;
+const CLEAN: u16 = 7;
+
+fn privilege(operation: u16) -> Privilege {
+    Privilege {
+        operation,
+        target: 1,
+    }
+}
+
+fn roles(m: usize, roles: &[u16]) -> Exclusion {
+    let members = Members::Roles(roles.to_vec());
+    Exclusion { m, members }
+}
+
+fn privileges(m: usize, operations: &[u16]) -> Exclusion {
+    let listed = operations.iter().map(|&o| privilege(o)).collect();
+    let members = Members::Privileges(listed);
+    Exclusion { m, members }
+}
+
+fn level(kind: u16, mark: Mark) -> Level {
+    Level { kind, mark }
+}
+
+fn request(user: u32, role: u16, operation: u16, context: &[(u16, u16)]) -> Vec<u8> {
+    let request = Request {
+        user,
+        roles: 1 << (role - 1),
+        privilege: privilege(operation),
+        context: context.to_vec(),
+    };
+    write_request(&request).to_vec()
+}
+
+/// Eight rules of a works with depots and jobs: every job has rule 1, and those of the first five
+/// depots have a rule of their own, so that a record has one mark or two.
+struct Typical {
+    policy: Vec<u8>,
+}
+
+impl Typical {
+    fn new() -> Typical {
+        let jobs = Rule {
+            levels: vec![level(DEPOT, Mark::Every), level(JOB, Mark::Each)],
+            first: None,
+            last: Some(privilege(CLOSE)),
+            exclusions: vec![
+                privileges(2, &[ADJUST, CHECK, CHECK]),
+                roles(2, &[1, 2]),
+                privileges(3, &[ADJUST, PACK, CLOSE]),
+            ],
+        };
+        let count = Rule {
+            levels: vec![level(DEPOT, Mark::Each)],
+            first: Some(privilege(BEGIN_COUNT)),
+            last: Some(privilege(END_COUNT)),
+            exclusions: vec![roles(2, &[1, 3])],
+        };
+        let yard = Rule {
+            levels: vec![level(9, Mark::Every)],
+            first: None,
+            last: None,
+            exclusions: vec![roles(2, &[4, 5])],
+        };
+        let of_depot = |depot| Rule {
+            levels: vec![level(DEPOT, Mark::Fixed(depot)), level(JOB, Mark::Each)],
+            first: None,
+            last: Some(privilege(CLOSE)),
+            exclusions: vec![privileges(2, &[CHECK, PACK]), roles(3, &[1, 2, 4])],
+        };
+        let may = |role, operation| Permission {
+            role,
+            privilege: privilege(operation),
+        };
+        let policy = Policy {
+            rules: [jobs, count, yard]
+                .into_iter()
+                .chain((1..=5).map(of_depot))
+                .collect(),
+            permissions: vec![vec![
+                may(1, ADJUST),
+                may(2, CHECK),
+                may(4, PACK),
+                may(2, CLOSE),
+                may(3, BEGIN_COUNT),
+                may(3, END_COUNT),
+                may(1, CLEAN),
+            ]],
+        };
+        Typical {
+            policy: write_policy(&policy),
+        }
+    }
+
+    /// A table of so many blocks with so many records, as work on many jobs leaves it: each job is
+    /// adjusted, packed and checked by different people.
+    fn table(&self, blocks: usize, records: usize) -> Vec<u8> {
+        let mut chance = Chance::new(7);
+        let mut table = write_table(sums(&self.policy), &[], blocks);
+        let mut held = 0;
+        while held < records {
+            let user = chance.from(10, 60) as u32;
+            let (role, operation) = chance.pick(&[(1, ADJUST), (2, CHECK), (4, PACK)]);
+            let context = [
+                (DEPOT, chance.from(1, 10) as u16),
+                (JOB, chance.from(1, 800) as u16),
+            ];
+            let request = request(user, role, operation, &context);
+            let reply = quick::decide(&self.policy, &mut table, &request);
+            if !reply.is_refusal() {
+                held = reply.third as usize;
+            }
+        }
+        table
+    }
+
+    fn decide(&self, name: &str, table: &[u8], request: Vec<u8>, expected: Reply) -> Workload {
+        Workload {
+            name: name.to_string(),
+            call: Call::Decide,
+            policy: self.policy.clone(),
+            table: table.to_vec(),
+            request,
+            expected,
+        }
+    }
+
+    /// A request that rule 1 refuses by 33, as the first of these records is of its job.
+    fn refused(&self, table: &[u8]) -> Vec<u8> {
+        let bytes: &[u8; REQUEST] = table[24..].first_chunk().unwrap();
+        let earlier = independent::images::read_request(bytes).unwrap();
+        // Who has adjusted may not check; who has checked may not adjust, nor check again.
+        let (role, operation) = match earlier.privilege.operation {
+            ADJUST => (2, CHECK),
+            CHECK => (2, CHECK),
+            _ => unreachable!("the first record is not of packing"),
+        };
+        request(earlier.user, role, operation, &earlier.context)
+    }
+
+    fn workloads(&self) -> Vec<Workload> {
+        let stamp = sums(&self.policy);
+        let empty = |blocks| write_table(stamp, &[], blocks);
+        let nearly = self.table(128, places(128) - 1);
+        let full = self.table(128, places(128));
+        let new_job = |operation| request(7, 1, operation, &[(DEPOT, 3), (JOB, 900)]);
+        let by_33 = self.refused(&full);
+        let closing = {
+            let mut other = self.refused(&nearly);
+            other[..4].copy_from_slice(&9u32.to_le_bytes());
+            other[4..8].copy_from_slice(&2u32.to_le_bytes());
+            other[8..10].copy_from_slice(&CLOSE.to_le_bytes());
+            other
+        };
+        let closed = quick::decide(&self.policy, &mut nearly.clone(), &closing);
+        let check = |name: &str, call, table: &[u8], expected| Workload {
+            call,
+            ..self.decide(name, table, vec![], expected)
+        };
+        vec![
+            self.decide(
+                "empty table, 1 block: grant, recorded",
+                &empty(1),
+                new_job(ADJUST),
+                Reply::grant(1, 0, 1),
+            ),
+            self.decide(
+                "empty table, 128 blocks: grant, recorded",
+                &empty(128),
+                new_job(ADJUST),
+                Reply::grant(1, 0, 1),
+            ),
+            self.decide(
+                "full but one, 128: grant, recorded",
+                &nearly,
+                new_job(ADJUST),
+                Reply::grant(1, 0, places(128)),
+            ),
+            self.decide(
+                "full but one, 128: last step, some removed",
+                &nearly,
+                closing,
+                closed,
+            ),
+            self.decide(
+                "full, 128: grant, not recorded",
+                &full,
+                request(7, 1, ADJUST, &[]),
+                Reply::grant(0, 0, places(128)),
+            ),
+            self.decide(
+                "full, 128: refused by 33",
+                &full,
+                by_33,
+                Reply::refuse(33, 1, 1),
+            ),
+            self.decide(
+                "full, 128: refused by 34",
+                &full,
+                new_job(ADJUST),
+                Reply::refuse(34, 0, 0),
+            ),
+            self.decide(
+                "full, 128: refused by 31",
+                &full,
+                new_job(CHECK),
+                Reply::refuse(31, 0, 0),
+            ),
+            check(
+                "check of the policy, 9 blocks",
+                Call::CheckPolicy,
+                &[],
+                Reply::accept(8),
+            ),
+            check(
+                "check of a full table, 128",
+                Call::CheckTable,
+                &full,
+                Reply::accept(places(128)),
+            ),
+            check(
+                "fresh table, 128",
+                Call::FreshTable,
+                &full,
+                Reply::accept(places(128)),
+            ),
+        ]
+    }
+
+    fn growth(&self) -> Vec<Workload> {
+        (0..8)
+            .map(|power| {
+                let blocks = 1 << power;
+                let full = self.table(blocks, places(blocks));
+                let request = self.refused(&full);
+                let name = format!("{blocks} blocks");
+                self.decide(&name, &full, request, Reply::refuse(33, 1, 1))
+            })
+            .collect()
+    }
+}
+
+// ---------------------------------------------------------------------------------------------
+// What is measured: the worst
+
+/// 32 rules of 8 exclusions of 8, 32 blocks of 61 permissions, and 1920 records of one user, each in
+/// another context and marked for every rule.
+struct Worst {
+    policy: Vec<u8>,
+    table: Vec<u8>,
+}
+
+/// The user does operations 1 to 56, seven of the eight members of each exclusion of privileges.
+const DONE: u16 = 56;
+
+impl Worst {
+    fn new() -> Worst {
+        let exclusion = |x: u16| {
+            if x.is_multiple_of(2) {
+                let mut listed: Vec<u16> = (1..=7).map(|i| 7 * x + i).collect();
+                listed.push(1_000 + x);
+                privileges(8, &listed)
+            } else {
+                roles(8, &[1, 2, 3, 4, 5, 6, 7, 8 + x])
+            }
+        };
+        let rule = Rule {
+            levels: (1..=4).map(|kind| level(kind, Mark::Every)).collect(),
+            first: Some(privilege(1)),
+            last: Some(privilege(2_000)),
+            exclusions: (0..8).map(exclusion).collect(),
+        };
+        let mut rules = vec![rule; 32];
+        // The very last exclusion is one that a request can fail by.
+        rules[31].exclusions[7] = privileges(8, &[1, 2, 3, 4, 5, 6, 7, 3_000]);
+        let never = Permission {
+            role: 32,
+            privilege: privilege(60_000),
+        };
+        let mut permissions = vec![vec![never; 61]; 32];
+        for (place, operation) in [2_000, 3_000, 4_000].into_iter().enumerate() {
+            permissions[31][58 + place] = Permission {
+                role: 1,
+                privilege: privilege(operation),
+            };
+        }
+        let policy = write_policy(&Policy { rules, permissions });
+        let mut chance = Chance::new(7);
+        let records: Vec<Record> = (0..places(128))
+            .map(|i| Record {
+                request: Request {
+                    user: 7,
+                    roles: 0x7F,
+                    privilege: privilege(1 + i as u16 % DONE),
+                    context: Worst::context(&mut chance),
+                },
+                marks: u32::MAX,
+            })
+            .collect();
+        let table = write_table(sums(&policy), &records, 128);
+        Worst { policy, table }
+    }
+
+    fn context(chance: &mut Chance) -> Context {
+        (1..=4)
+            .map(|kind| (kind, chance.from(1, 65535) as u16))
+            .collect()
+    }
+
+    fn workloads(&self) -> Vec<Workload> {
+        let context = Worst::context(&mut Chance::new(8));
+        let workload = |name: &str, call, operation, expected| Workload {
+            name: name.to_string(),
+            call,
+            policy: self.policy.clone(),
+            table: self.table.clone(),
+            request: request(7, 1, operation, &context),
+            expected,
+        };
+        let (all, none) = (places(128), Reply::refuse(31, 0, 0));
+        vec![
+            workload(
+                "worst: refused by 33 at the very last",
+                Call::Decide,
+                3_000,
+                Reply::refuse(33, 32, 8),
+            ),
+            workload(
+                "worst: refused by 34",
+                Call::Decide,
+                4_000,
+                Reply::refuse(34, 0, 0),
+            ),
+            workload(
+                "worst: last step of all, all removed",
+                Call::Decide,
+                2_000,
+                Reply::grant(0, all, 0),
+            ),
+            workload("worst: refused by 31", Call::Decide, 5_000, none),
+            workload(
+                "worst: check of the policy, 64 blocks",
+                Call::CheckPolicy,
+                1,
+                Reply::accept(32),
+            ),
+            workload(
+                "worst: check of the table",
+                Call::CheckTable,
+                1,
+                Reply::accept(all),
+            ),
+        ]
+    }
+}

@@ -1,0 +1,604 @@
+//! Faults with the number and the places that document 01 gives them, one by one; and its edges.
+//!
+//! Here the expected answers are written down from the paper, so that engine and independent judges
+//! cannot agree on a mistake.
+
+mod independent;
+mod support;
+
+use independent::images::*;
+use independent::register::Register;
+use independent::Reply;
+use support::compare::Comparing;
+
+fn refuse(number: usize, first: usize, second: usize) -> Reply {
+    Reply::refuse(number, first, second)
+}
+
+fn privilege(operation: u16, target: u16) -> Privilege {
+    Privilege { operation, target }
+}
+
+fn roles(m: usize, roles: &[u16]) -> Exclusion {
+    let members = Members::Roles(roles.to_vec());
+    Exclusion { m, members }
+}
+
+fn privileges(m: usize, privileges: &[Privilege]) -> Exclusion {
+    let members = Members::Privileges(privileges.to_vec());
+    Exclusion { m, members }
+}
+
+fn level(kind: u16, mark: Mark) -> Level {
+    Level { kind, mark }
+}
+
+/// Two rules and two permission blocks: every field of the format is in use somewhere.
+fn policy() -> Policy {
+    let [one, two, three] = [privilege(1, 1), privilege(2, 1), privilege(3, 2)];
+    let may = |role, privilege| Permission { role, privilege };
+    Policy {
+        rules: vec![
+            Rule {
+                levels: vec![
+                    level(1, Mark::Fixed(9)),
+                    level(2, Mark::Every),
+                    level(3, Mark::Each),
+                ],
+                first: Some(one),
+                last: Some(two),
+                exclusions: vec![roles(2, &[1, 2, 32]), privileges(3, &[one, two, two])],
+            },
+            Rule {
+                levels: vec![],
+                first: None,
+                last: None,
+                exclusions: vec![privileges(2, &[three, three])],
+            },
+        ],
+        permissions: vec![vec![may(1, one), may(2, two)], vec![may(32, three)]],
+    }
+}
+
+fn request() -> Request {
+    Request {
+        user: 7,
+        roles: 1,
+        privilege: privilege(1, 1),
+        context: vec![(1, 9), (2, 4), (3, 5), (4, 6)],
+    }
+}
+
+/// Two blocks: fifteen records and two, all marked for both rules.
+fn table(policy: &[u8]) -> Vec<u8> {
+    let record = Record {
+        request: request(),
+        marks: 3,
+    };
+    write_table(sums(policy), &vec![record; 17], 2)
+}
+
+/// Writes bytes into an image and puts its checks right.
+fn with(image: &[u8], changes: &[(usize, &[u8])]) -> Vec<u8> {
+    let mut image = image.to_vec();
+    for (at, bytes) in changes {
+        image[*at..at + bytes.len()].copy_from_slice(bytes);
+    }
+    reseal(&mut image);
+    image
+}
+
+const FIRST: usize = 0;
+const SECOND: usize = 512;
+const THIRD: usize = 1024;
+const FOURTH: usize = 1536;
+
+/// Asks all calls for the same answer to a policy.
+fn policy_gets(comparing: &mut Comparing, policy: &[u8], expected: Reply) {
+    let mut table = table(&write_policy(&self::policy()));
+    assert_eq!(comparing.check_policy(policy), expected);
+    if expected.is_refusal() {
+        let request = write_request(&request());
+        assert_eq!(comparing.check_table(policy, &table), expected);
+        assert_eq!(comparing.fresh_table(policy, &mut table), expected);
+        assert_eq!(comparing.decide(policy, &mut table, &request), expected);
+    }
+}
+
+/// Asks both calls that read a table for the same answer.
+fn table_gets(comparing: &mut Comparing, table: &[u8], expected: Reply) {
+    let policy = write_policy(&policy());
+    assert_eq!(comparing.check_table(&policy, table), expected);
+    if expected.is_refusal() {
+        // The table's numbers come before the request's.
+        for request in [&write_request(&request())[..], &[]] {
+            let mut table = table.to_vec();
+            assert_eq!(comparing.decide(&policy, &mut table, request), expected);
+        }
+    }
+}
+
+#[test]
+fn policy_whole() {
+    let mut comparing = Comparing::new();
+    let good = write_policy(&policy());
+    policy_gets(&mut comparing, &good, Reply::accept(2));
+    for length in [0, 1, 511, 513, good.len() - 1] {
+        policy_gets(&mut comparing, &good[..length], refuse(1, 0, 0));
+    }
+    let of_blocks = |blocks| Policy {
+        rules: vec![],
+        permissions: vec![vec![]; blocks],
+    };
+    for (blocks, expected) in [
+        (1, Reply::accept(0)),
+        (64, Reply::accept(0)),
+        (65, refuse(1, 0, 0)),
+    ] {
+        policy_gets(&mut comparing, &write_policy(&of_blocks(blocks)), expected);
+    }
+}
+
+#[test]
+fn policy_blocks() {
+    let mut comparing = Comparing::new();
+    let good = write_policy(&policy());
+    // 2: the check, of every block.
+    for block in 0..4 {
+        for at in [0, 100, 503, 504, 507, 508, 511] {
+            let mut bad = good.clone();
+            bad[512 * block + at] ^= 16;
+            policy_gets(&mut comparing, &bad, refuse(2, block, 0));
+        }
+    }
+    // 3: kind, number, total.
+    for block in 0..4 {
+        let at = 512 * block;
+        for change in [
+            (at, &[0][..]),
+            (at, &[2]),
+            (at, &[4]),
+            (at + 1, &[1]),
+            (at + 3, &[1]),
+            (at + 4, &[9]),
+            (at + 5, &[1]),
+            (at + 6, &[5]),
+            (at + 7, &[1]),
+        ] {
+            let bad = with(&good, &[change]);
+            policy_gets(&mut comparing, &bad, refuse(3, block, 0));
+        }
+    }
+    // 3: a rule after a permission block. It is the rule that is at fault.
+    let mut blocks: Vec<&[u8]> = good.chunks(512).collect();
+    blocks.swap(1, 2);
+    let mixed = with(&blocks.concat(), &[(SECOND + 4, &[1]), (THIRD + 4, &[2])]);
+    policy_gets(&mut comparing, &mixed, refuse(3, 2, 0));
+    // 3: rule 33.
+    let mut many = policy();
+    many.rules = vec![many.rules[0].clone(); 32];
+    policy_gets(&mut comparing, &write_policy(&many), Reply::accept(32));
+    many.rules.push(many.rules[0].clone());
+    policy_gets(&mut comparing, &write_policy(&many), refuse(3, 32, 0));
+    many.permissions.clear();
+    policy_gets(&mut comparing, &write_policy(&many), refuse(3, 32, 0));
+}
+
+#[test]
+fn rules_outside_exclusions() {
+    let mut comparing = Comparing::new();
+    let good = write_policy(&policy());
+    let in_first: &[(usize, &[u8])] = &[
+        (8, &[5]),             // depth 5
+        (8, &[4]),             // depth 4, but the fourth level is blank
+        (8, &[2]),             // depth 2, but the third level is not blank
+        (9, &[0]),             // no exclusion
+        (9, &[9]),             // nine
+        (10, &[2]),            // the flag of the first step
+        (10, &[0]),            // not set, but not zero
+        (11, &[255]),          // the flag of the last step
+        (11, &[0]),            // not set, but not zero
+        (12, &[1]),            // not named
+        (15, &[1]),            // not named
+        (16, &[0]),            // type 0
+        (18, &[0]),            // mark 0
+        (18, &[4]),            // mark 4
+        (18, &[2]),            // every, with a value
+        (19, &[1]),            // zero
+        (20, &[0]),            // fixed, value 0
+        (22, &[1]),            // zero
+        (23, &[1]),            // zero
+        (26, &[1]),            // fixed, value 0
+        (28, &[1]),            // every, with a value
+        (36, &[1]),            // each, with a value
+        (40, &[1]),            // past the depth
+        (47, &[1]),            // past the depth
+        (48, &[0]),            // first step, operation 0
+        (50, &[0]),            // first step, target 0
+        (52, &[0]),            // last step, operation 0
+        (54, &[0]),            // last step, target 0
+        (52, &[1]),            // first and last step are equal
+        (344, &[1]),           // not named
+        (503, &[1]),           // not named
+        (8, &[4, 2, 1, 1, 1]), // several at once
+    ];
+    for &(at, bytes) in in_first {
+        let bad = with(&good, &[(FIRST + at, bytes)]);
+        policy_gets(&mut comparing, &bad, refuse(4, 0, 0));
+    }
+    for at in (12..56).chain(344..504) {
+        // The second rule has no levels and no steps.
+        let bad = with(&good, &[(SECOND + at, &[3])]);
+        policy_gets(&mut comparing, &bad, refuse(4, 1, 0));
+    }
+    // 4 comes before 5, and block 0 before block 1.
+    let bad = with(&good, &[(FIRST + 56, &[9]), (FIRST + 12, &[1])]);
+    policy_gets(&mut comparing, &bad, refuse(4, 0, 0));
+    let bad = with(&good, &[(SECOND + 12, &[1]), (FIRST + 56, &[9])]);
+    policy_gets(&mut comparing, &bad, refuse(5, 0, 1));
+    // Depth 4 passes; steps may have the operation or the target in common.
+    let fine: &[&[(usize, &[u8])]] = &[
+        &[(8, &[4]), (40, &[4, 0, 3])],
+        &[(18, &[2, 0, 0, 0])],
+        &[(52, &[1, 0, 2, 0])],
+        &[(52, &[9, 0, 1, 0])],
+    ];
+    for changes in fine {
+        policy_gets(&mut comparing, &with(&good, changes), Reply::accept(2));
+    }
+}
+
+#[test]
+fn exclusions() {
+    let mut comparing = Comparing::new();
+    let good = write_policy(&policy());
+    // Exclusion x (from 1) of the first rule, which has two.
+    let at = |x: usize| 56 + 36 * (x - 1);
+    let bad: &[(usize, usize, &[u8])] = &[
+        (1, 0, &[0]),        // kind 0
+        (1, 0, &[3]),        // kind 3
+        (1, 0, &[2]),        // roles read as privileges have target 0
+        (1, 1, &[1]),        // m = 1
+        (1, 1, &[0]),        // m = 0
+        (1, 1, &[4]),        // m > n
+        (1, 2, &[1]),        // n < m
+        (1, 2, &[0]),        // n = 0
+        (1, 2, &[9]),        // n = 9
+        (1, 2, &[255]),      // n = 255
+        (1, 2, &[4]),        // the fourth member is blank
+        (1, 2, &[2]),        // the third is not
+        (1, 3, &[1]),        // zero
+        (1, 4, &[0]),        // role 0
+        (1, 4, &[33]),       // role 33
+        (1, 5, &[1]),        // role 257
+        (1, 6, &[1]),        // zero
+        (1, 7, &[1]),        // zero
+        (1, 8, &[1]),        // role 1 twice
+        (1, 12, &[2]),       // role 2 twice
+        (1, 16, &[5]),       // past n
+        (1, 35, &[1]),       // past n
+        (2, 0, &[1]),        // privileges read as roles
+        (2, 4, &[0]),        // operation 0
+        (2, 6, &[0]),        // target 0
+        (2, 14, &[0]),       // target 0 of the third
+        (2, 16, &[1, 0, 1]), // past n
+        (3, 0, &[1]),        // past the number
+        (3, 35, &[1]),       // past the number
+        (5, 17, &[1]),       // past the number
+        (8, 35, &[1]),       // past the number
+    ];
+    for &(x, offset, bytes) in bad {
+        let bad = with(&good, &[(FIRST + at(x) + offset, bytes)]);
+        policy_gets(&mut comparing, &bad, refuse(5, 0, x));
+        // With another fault behind it, the first is named.
+        let worse = with(&bad, &[(FIRST + at(8) + 35, &[1]), (SECOND, &[0])]);
+        policy_gets(&mut comparing, &worse, refuse(5, 0, x));
+    }
+    for x in 2..=8 {
+        let bad = with(&good, &[(SECOND + at(x) + 3 * x, &[1])]);
+        policy_gets(&mut comparing, &bad, refuse(5, 1, x));
+    }
+    // A privilege may be listed eight times; there may be eight exclusions of eight.
+    let mut fine = policy();
+    let eight = [1, 2, 3, 4, 5, 6, 31, 32];
+    fine.rules[0].exclusions = vec![roles(8, &eight); 8];
+    fine.rules[1].exclusions = vec![privileges(8, &[privilege(65535, 65535); 8]); 8];
+    policy_gets(&mut comparing, &write_policy(&fine), Reply::accept(2));
+}
+
+#[test]
+fn permissions() {
+    let mut comparing = Comparing::new();
+    let good = write_policy(&policy());
+    let bad: &[(usize, &[u8], usize)] = &[
+        (8, &[62], 0),  // 62 entries
+        (8, &[61], 3),  // 61 entries, of which the third is blank
+        (9, &[1], 0),   // 258 entries
+        (10, &[1], 0),  // not named
+        (15, &[1], 0),  // not named
+        (8, &[1], 0),   // the second entry is not counted
+        (8, &[0], 0),   // nor is the first
+        (8, &[3], 3),   // the third is blank
+        (32, &[1], 0),  // after the entries
+        (503, &[1], 0), // after the entries
+        (16, &[0], 1),  // role 0
+        (16, &[33], 1), // role 33
+        (17, &[1], 1),  // role 257
+        (18, &[0], 1),  // operation 0
+        (20, &[0], 1),  // target 0
+        (22, &[1], 1),  // zero
+        (23, &[1], 1),  // zero
+        (24, &[0], 2),  // role 0 of the second
+        (31, &[1], 2),  // zero of the second
+    ];
+    for &(at, bytes, entry) in bad {
+        let bad = with(&good, &[(THIRD + at, bytes)]);
+        policy_gets(&mut comparing, &bad, refuse(6, 2, entry));
+        // What is outside the counted entries comes first; of 61 entries the last ends at 503.
+        let worse = with(&bad, &[(THIRD + 503, &[1]), (FOURTH, &[0])]);
+        let entry = if bytes == [61] { entry } else { 0 };
+        policy_gets(&mut comparing, &worse, refuse(6, 2, entry));
+    }
+    let bad = with(&good, &[(THIRD + 16, &[0]), (THIRD + 24, &[0])]);
+    policy_gets(&mut comparing, &bad, refuse(6, 2, 1));
+    let bad = with(&good, &[(FOURTH + 16, &[0])]);
+    policy_gets(&mut comparing, &bad, refuse(6, 3, 1));
+    // 61 entries pass, the same one more than once too.
+    let mut fine = policy();
+    fine.permissions[1] = vec![fine.permissions[1][0]; 61];
+    policy_gets(&mut comparing, &write_policy(&fine), Reply::accept(2));
+}
+
+#[test]
+fn tables() {
+    let mut comparing = Comparing::new();
+    let policy = write_policy(&policy());
+    let good = table(&policy);
+    table_gets(&mut comparing, &good, Reply::accept(17));
+    for length in [0, 1, 511, 513, 1023] {
+        table_gets(&mut comparing, &good[..length], refuse(11, 0, 0));
+    }
+    for (blocks, expected) in [
+        (1, Reply::accept(0)),
+        (128, Reply::accept(0)),
+        (129, refuse(11, 0, 0)),
+    ] {
+        let fresh = write_table(sums(&policy), &[], blocks);
+        table_gets(&mut comparing, &fresh, expected);
+        let mut buffer = vec![0xEE; 512 * blocks];
+        let reply = comparing.fresh_table(&policy, &mut buffer);
+        if expected.is_refusal() {
+            assert_eq!(reply, expected);
+        } else {
+            assert_eq!((reply, buffer), (Reply::accept(15 * blocks), fresh));
+        }
+    }
+    let record = |i: usize| 24 + 32 * (i - 1);
+    let bad: &[(usize, &[u8], Reply)] = &[
+        (0, &[1], refuse(13, 0, 0)),          // kind
+        (3, &[1], refuse(13, 0, 0)),          // kind
+        (4, &[1], refuse(13, 0, 0)),          // number
+        (6, &[1], refuse(13, 0, 0)),          // total
+        (8, &[16], refuse(13, 0, 0)),         // count
+        (9, &[1], refuse(13, 0, 0)),          // count
+        (10, &[1], refuse(13, 0, 0)),         // spare
+        (15, &[1], refuse(13, 0, 0)),         // spare
+        (8, &[14], refuse(13, 0, 0)),         // record 15 is then spare bytes
+        (SECOND + 8, &[1], refuse(13, 1, 0)), // so is record 2 of the second block
+        (SECOND + 8, &[3], refuse(15, 1, 3)), // the third is blank
+        (SECOND + record(3), &[1], refuse(13, 1, 0)),
+        (SECOND + 503, &[1], refuse(13, 1, 0)),
+        (16, &[0xFF, 0xFF], refuse(14, 0, 0)), // stamp
+        (23, &[0xFF, 0xFF], refuse(14, 0, 0)), // stamp
+        (SECOND + 20, &[0xFF, 0xFF], refuse(14, 1, 0)),
+        (record(1), &[0; 4], refuse(15, 0, 1)),        // user
+        (record(2) + 4, &[0; 4], refuse(15, 0, 2)),    // roles
+        (record(3) + 8, &[0; 2], refuse(15, 0, 3)),    // operation
+        (record(4) + 10, &[0; 2], refuse(15, 0, 4)),   // target
+        (record(5) + 12, &[0; 4], refuse(15, 0, 5)),   // a used level behind a blank one
+        (record(6) + 24, &[0; 2], refuse(15, 0, 6)),   // type
+        (record(7) + 26, &[0; 2], refuse(15, 0, 7)),   // value
+        (record(8) + 28, &[0; 4], refuse(15, 0, 8)),   // no mark
+        (record(9) + 28, &[4], refuse(15, 0, 9)),      // rule 3 is not there
+        (record(10) + 31, &[128], refuse(15, 0, 10)),  // rule 32 is not there
+        (record(11) + 14, &[8], refuse(15, 0, 11)),    // another value than the fixed one
+        (record(12) + 12, &[9], refuse(15, 0, 12)),    // another type
+        (record(13) + 20, &[0; 8], refuse(15, 0, 13)), // not deep enough
+        (SECOND + record(2) + 28, &[0], refuse(15, 1, 2)),
+    ];
+    for &(at, bytes, expected) in bad {
+        let bad = with(&good, &[(at, bytes)]);
+        table_gets(&mut comparing, &bad, expected);
+        let mut unsealed = bad;
+        unsealed[(at / 512) * 512 + 511] ^= 1;
+        table_gets(&mut comparing, &unsealed, refuse(12, at / 512, 0));
+    }
+    // Numbers within a block upwards, blocks in turn.
+    let bad = with(&good, &[(16, &[0xFF, 0xFF]), (record(1), &[0; 4])]);
+    table_gets(&mut comparing, &bad, refuse(14, 0, 0));
+    let bad = with(&bad, &[(10, &[1])]);
+    table_gets(&mut comparing, &bad, refuse(13, 0, 0));
+    let bad = with(&good, &[(record(15), &[0; 4]), (SECOND, &[1])]);
+    table_gets(&mut comparing, &bad, refuse(15, 0, 15));
+    // A record without the mark of a rule that it does not fit is fine, whatever its context.
+    let fine = with(&good, &[(record(5) + 14, &[8]), (record(5) + 28, &[2])]);
+    table_gets(&mut comparing, &fine, Reply::accept(17));
+}
+
+#[test]
+fn gaps() {
+    let mut comparing = Comparing::new();
+    let policy = write_policy(&policy());
+    let record = Record {
+        request: request(),
+        marks: 2,
+    };
+    // Blocks of 15, 15, 1 and 0 records; then records are taken away from one block.
+    let full = write_table(sums(&policy), &vec![record; 31], 4);
+    table_gets(&mut comparing, &full, Reply::accept(31));
+    let without = |block: usize, left: usize| {
+        let from = 512 * block + 24 + 32 * left;
+        let blank = vec![0; 512 * block + 504 - from];
+        with(&full, &[(512 * block + 8, &[left as u8]), (from, &blank)])
+    };
+    for left in 0..15 {
+        // The gap is the fault of the block that has records after it.
+        table_gets(&mut comparing, &without(0, left), refuse(13, 1, 0));
+        table_gets(&mut comparing, &without(1, left), refuse(13, 2, 0));
+    }
+    table_gets(&mut comparing, &without(2, 0), Reply::accept(30));
+    // The block before it need not be the one that is not full.
+    let mut far = without(1, 0);
+    far.copy_within(SECOND..THIRD, 0);
+    far[4] = 0;
+    reseal(&mut far);
+    table_gets(&mut comparing, &far, refuse(13, 2, 0));
+}
+
+#[test]
+fn requests() {
+    let mut comparing = Comparing::new();
+    let policy = write_policy(&policy());
+    let fresh = write_table(sums(&policy), &[], 1);
+    let mut gets = |request: &[u8], expected: Reply| {
+        let mut table = fresh.clone();
+        assert_eq!(comparing.decide(&policy, &mut table, request), expected);
+        let mut register = Register::new(&policy, 1);
+        assert_eq!(register.answer(request), expected);
+    };
+    let good = write_request(&request());
+    gets(&good, Reply::grant(1, 0, 1));
+    for length in (0..28).chain(29..80) {
+        gets(&[1; 80][..length], refuse(21, 0, 0));
+    }
+    // 21 even where there is a bad field too.
+    gets(&[0; 27], refuse(21, 0, 0));
+    let bad: &[(usize, &[u8])] = &[
+        (0, &[0; 4]),  // user
+        (4, &[0; 4]),  // roles
+        (8, &[0; 2]),  // operation
+        (10, &[0; 2]), // target
+        (12, &[0; 4]), // a used level behind a blank one
+        (16, &[0; 4]),
+        (20, &[0; 4]),
+        (12, &[0; 2]), // half a level
+        (14, &[0; 2]),
+        (24, &[0; 2]),
+        (26, &[0; 2]),
+        (12, &[0; 12]), // only the last level is used
+    ];
+    for (at, bytes) in bad {
+        let mut request = good;
+        request[*at..at + bytes.len()].copy_from_slice(bytes);
+        gets(&request, refuse(22, 0, 0));
+    }
+    // Every shorter context is fine. The second rule fits all of them.
+    for used in 0..4 {
+        let mut request = good;
+        request[12 + 4 * used..].fill(0);
+        gets(&request, Reply::grant(1, 0, 1));
+    }
+    // Roles that the policy does not name do no harm.
+    let mut request = good;
+    request[4..8].copy_from_slice(&0xFFFF_FFFCu32.to_le_bytes());
+    gets(&request, refuse(31, 0, 0));
+}
+
+/// "15 held in one block and a sixteenth request that would be marked and removes none gives 34, an
+/// unmarked one is granted"; and fullness is tested after clearing.
+#[test]
+fn a_full_table() {
+    let mut comparing = Comparing::new();
+    let [work, close] = [privilege(1, 1), privilege(2, 1)];
+    let unlikely = privileges(2, &[privilege(9, 9), privilege(9, 9)]);
+    let rule = |levels, last| Rule {
+        levels,
+        first: None,
+        last,
+        exclusions: vec![unlikely.clone()],
+    };
+    let may = |privilege| Permission { role: 1, privilege };
+    let policy = write_policy(&Policy {
+        rules: vec![
+            rule(vec![level(1, Mark::Each)], Some(close)),
+            rule(vec![level(1, Mark::Fixed(2))], None),
+        ],
+        permissions: vec![vec![may(work), may(close)]],
+    });
+    let request = |privilege, context: &[(u16, u16)]| {
+        write_request(&Request {
+            user: 7,
+            roles: 1,
+            privilege,
+            context: context.to_vec(),
+        })
+    };
+    let mut table = write_table(sums(&policy), &[], 1);
+    let mut register = Register::new(&policy, 1);
+    let mut gets = |request: [u8; 28], expected: Reply| {
+        let reply = comparing.decide(&policy, &mut table, &request);
+        assert_eq!((reply, register.answer(&request)), (expected, expected));
+        assert_eq!(table, register.image());
+    };
+    for held in 1..=15 {
+        gets(request(work, &[(1, 1)]), Reply::grant(1, 0, held));
+    }
+    gets(request(work, &[(1, 1)]), refuse(34, 0, 0));
+    gets(request(work, &[(1, 2)]), refuse(34, 0, 0));
+    // No rule fits the whole business, so that nothing is recorded.
+    gets(request(work, &[]), Reply::grant(0, 0, 15));
+    // The last step at another place clears nothing, but rule 2 counts it.
+    gets(request(close, &[(1, 2)]), refuse(34, 0, 0));
+    // At its own place it clears all, and is marked for no other rule.
+    gets(request(close, &[(1, 1)]), Reply::grant(0, 15, 0));
+    // Place 2: rule 2 still counts what rule 1 has done with.
+    for held in 1..=15 {
+        gets(request(work, &[(1, 2)]), Reply::grant(1, 0, held));
+    }
+    gets(request(close, &[(1, 2)]), refuse(34, 0, 0));
+}
+
+/// A full table in which a marked last step makes its own place.
+#[test]
+fn full_until_cleared() {
+    let mut comparing = Comparing::new();
+    let [work, close] = [privilege(1, 1), privilege(2, 1)];
+    let rule = |first, last| Rule {
+        levels: vec![],
+        first,
+        last,
+        exclusions: vec![roles(2, &[31, 32])],
+    };
+    let may = |privilege| Permission { role: 1, privilege };
+    // The last step of rule 1 is the first of rule 2.
+    let policy = write_policy(&Policy {
+        rules: vec![rule(None, Some(close)), rule(Some(close), None)],
+        permissions: vec![vec![may(work), may(close)]],
+    });
+    let request = |privilege| {
+        write_request(&Request {
+            user: 1,
+            roles: 1,
+            privilege,
+            context: vec![],
+        })
+    };
+    let mut table = write_table(sums(&policy), &[], 1);
+    let mut register = Register::new(&policy, 1);
+    let mut gets = |privilege, expected: Reply| {
+        let request = request(privilege);
+        let reply = comparing.decide(&policy, &mut table, &request);
+        assert_eq!((reply, register.answer(&request)), (expected, expected));
+        assert_eq!(table, register.image());
+    };
+    for held in 1..=15 {
+        gets(work, Reply::grant(1, 0, held));
+    }
+    gets(work, refuse(34, 0, 0));
+    gets(close, Reply::grant(1, 15, 1));
+    // Now rule 2 counts all, and nothing is ever cleared.
+    for held in 2..=15 {
+        gets(work, Reply::grant(1, 0, held));
+    }
+    gets(close, refuse(34, 0, 0));
+}

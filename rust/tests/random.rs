@@ -1,0 +1,463 @@
+//! Engine, both independent judges and the full register over lists by chance.
+//!
+//! Each part goes by a seed and by a number of decisions, never by the clock, so that it does the
+//! same everywhere; and each part fails if an answer that it is there for did not come up often.
+//!
+//! The long run, of more than ten million decisions:
+//!
+//!     cargo test --release --offline --test random -- --ignored --nocapture long
+//!
+//! SOD_SEED=n begins it elsewhere; SOD_TIMES=n makes it n times as long.
+
+mod independent;
+mod support;
+
+use independent::images::*;
+use independent::register::Register;
+use independent::Reply;
+use support::chance::Chance;
+use support::compare::*;
+use support::world::{request_bytes, World};
+
+const SEED: u64 = 2_026;
+
+/// Says where chance stood when a test fails.
+struct Where(String);
+
+impl Drop for Where {
+    fn drop(&mut self) {
+        if std::thread::panicking() {
+            eprintln!("it was in {}", self.0);
+        }
+    }
+}
+
+/// Runs `one` on one seed after another until so many decisions were made.
+fn until(
+    comparing: &mut Comparing,
+    part: &str,
+    seed: u64,
+    decisions: usize,
+    one: impl Fn(&mut Comparing, &mut Chance),
+) {
+    let end = comparing.seen.decisions + decisions;
+    let mut seed = seed << 32;
+    while comparing.seen.decisions < end {
+        let _where = Where(format!("{part}, seed {seed}"));
+        one(comparing, &mut Chance::new(seed));
+        seed += 1;
+    }
+}
+
+// ---------------------------------------------------------------------------------------------
+// Lists from a fresh table, which the register goes along with
+
+/// A list of so many requests in a world, on a table of so many blocks; of a hundred requests some
+/// are `damaged`. Whether anybody has reached m is asked after every `every`-th request.
+fn list(
+    comparing: &mut Comparing,
+    chance: &mut Chance,
+    world: &World,
+    blocks: usize,
+    length: usize,
+    damaged: usize,
+    every: usize,
+) {
+    let policy = &world.image;
+    let mut table = noise(chance, 512 * blocks);
+    let fresh = comparing.fresh_table(policy, &mut table);
+    assert_eq!(fresh, Reply::accept(places(blocks)));
+    let mut register = Register::new(policy, blocks);
+    assert!(table == register.image(), "a fresh table is another");
+
+    let (mut recorded, mut removed) = (0, 0);
+    let mut request = world.request(chance);
+    for i in 0..length {
+        if chance.percent(95) {
+            request = world.request(chance);
+        }
+        let bytes = request_bytes(chance, &request, damaged);
+        let harmless = register.could_take(&bytes);
+        let reply = comparing.decide(policy, &mut table, &bytes);
+        assert_eq!(reply, register.answer(&bytes), "the register");
+        assert!(table == register.image(), "the register's image is another");
+        if !reply.is_refusal() {
+            assert!(harmless, "somebody has reached m with this step");
+            recorded += reply.first;
+            removed += reply.second;
+            assert_eq!(recorded - removed, reply.third);
+        }
+        if i % every == 0 {
+            assert!(register.nobody_has_reached_m());
+        }
+    }
+    let held = comparing.check_table(policy, &table);
+    assert_eq!(held, Reply::accept((recorded - removed) as usize));
+}
+
+fn noise(chance: &mut Chance, length: usize) -> Vec<u8> {
+    (0..length).map(|_| chance.next() as u8).collect()
+}
+
+fn small_list(comparing: &mut Comparing, chance: &mut Chance) {
+    let world = World::small(chance);
+    let accepted = Reply::accept(world.policy.rules.len());
+    assert_eq!(comparing.check_policy(&world.image), accepted);
+    let (blocks, length) = (chance.from(1, 3), chance.from(0, 200));
+    list(comparing, chance, &world, blocks, length, 4, 1);
+}
+
+fn large_list(comparing: &mut Comparing, chance: &mut Chance) {
+    let world = World::lenient(chance);
+    list(comparing, chance, &world, 128, 3_000, 1, 100);
+}
+
+fn middling_list(comparing: &mut Comparing, chance: &mut Chance) {
+    let world = World::large(chance);
+    let blocks = chance.from(4, 24);
+    list(comparing, chance, &world, blocks, 24 * blocks, 1, 10);
+}
+
+fn must_have_seen_in_lists(seen: &Seen, times: usize) {
+    seen.must_refuse("decide", &REQUEST_NUMBERS, times);
+    seen.must_refuse("decide", &JUDGE_NUMBERS, times);
+    seen.must_grant(&KINDS, times);
+}
+
+/// With 32 rules a table is seldom empty again.
+fn must_have_seen_in_large_lists(seen: &Seen, times: usize) {
+    seen.must_refuse("decide", &REQUEST_NUMBERS, times);
+    seen.must_refuse("decide", &JUDGE_NUMBERS, times);
+    seen.must_grant(&KINDS[3..], times);
+}
+
+#[test]
+fn small_lists() {
+    let mut comparing = Comparing::new();
+    until(&mut comparing, "small lists", SEED, 1_000_000, small_list);
+    must_have_seen_in_lists(&comparing.seen, 5_000);
+    println!("{}", comparing.seen);
+}
+
+#[test]
+fn large_lists() {
+    let mut comparing = Comparing::new();
+    until(
+        &mut comparing,
+        "middling lists",
+        SEED,
+        12_000,
+        middling_list,
+    );
+    must_have_seen_in_large_lists(&comparing.seen, 20);
+    println!("{}", comparing.seen);
+    let mut comparing = Comparing::new();
+    until(&mut comparing, "large lists", SEED, 3_000, large_list);
+    comparing.seen.must_refuse("decide", &[34], 20);
+    println!("{}", comparing.seen);
+}
+
+// ---------------------------------------------------------------------------------------------
+// Tables that pass the check, but that no list leads to
+
+fn strange_table(comparing: &mut Comparing, chance: &mut Chance) {
+    let world = World::small(chance);
+    let blocks = chance.from(1, 4);
+    let count = chance.from(0, places(blocks));
+    let records = world.records(chance, count);
+    let mut table = write_table(world.stamp(), &records, blocks);
+    let accepted = Reply::accept(records.len());
+    assert_eq!(comparing.check_table(&world.image, &table), accepted);
+    for _ in 0..chance.from(1, 30) {
+        let request = world.request(chance);
+        let bytes = request_bytes(chance, &request, 2);
+        comparing.decide(&world.image, &mut table, &bytes);
+    }
+}
+
+fn strange_large_table(comparing: &mut Comparing, chance: &mut Chance) {
+    let world = World::large(chance);
+    let blocks = chance.from(100, 128);
+    let count = places(blocks) - chance.below(20);
+    let records = world.records(chance, count);
+    let mut table = write_table(world.stamp(), &records, blocks);
+    for _ in 0..50 {
+        let request = world.request(chance);
+        comparing.decide(&world.image, &mut table, &write_request(&request));
+    }
+}
+
+#[test]
+fn strange_tables() {
+    let mut comparing = Comparing::new();
+    until(
+        &mut comparing,
+        "strange tables",
+        SEED,
+        300_000,
+        strange_table,
+    );
+    must_have_seen_in_lists(&comparing.seen, 1_000);
+    let large = strange_large_table;
+    until(&mut comparing, "strange large tables", SEED, 500, large);
+    println!("{}", comparing.seen);
+}
+
+// ---------------------------------------------------------------------------------------------
+// Damaged images
+
+/// A number that stands on one side of some limit.
+fn telling(chance: &mut Chance, old: u8) -> u8 {
+    const LIMITS: [u8; 16] = [0, 1, 2, 3, 4, 5, 7, 8, 9, 15, 16, 32, 33, 61, 62, 255];
+    match chance.below(4) {
+        0 => old ^ 1 << chance.below(8),
+        1 => old.wrapping_add(1),
+        _ => chance.pick(&LIMITS),
+    }
+}
+
+/// Alters a byte, mostly one that has a meaning.
+fn alter_byte(chance: &mut Chance, image: &mut [u8]) {
+    if image.is_empty() {
+        return;
+    }
+    let block = 512 * chance.below(image.len().div_ceil(512));
+    let end = match chance.below(10) {
+        0..=3 => 64,
+        4..=7 => 400,
+        _ => 504,
+    };
+    let at = (block + chance.below(end)).min(image.len() - 1);
+    image[at] = telling(chance, image[at]);
+}
+
+/// Copies a field to another place of its block: two steps become equal, a role stands twice.
+fn copy_field(chance: &mut Chance, image: &mut [u8]) {
+    if image.len() < 512 {
+        return;
+    }
+    let block = 512 * chance.below(image.len() / 512);
+    let fields = chance.pick(&[16, 126]);
+    let from = block + 4 * chance.below(fields);
+    let to = block + 4 * chance.below(fields);
+    image.copy_within(from..from + 4, to);
+}
+
+/// Puts whole blocks in disorder.
+fn alter_blocks(chance: &mut Chance, image: &mut Vec<u8>) {
+    let blocks = image.len() / 512;
+    if blocks == 0 {
+        return;
+    }
+    let (one, other) = (512 * chance.below(blocks), 512 * chance.below(blocks));
+    let copy = image[one..one + 512].to_vec();
+    match chance.below(4) {
+        0 => image.truncate(image.len() - 512),
+        1 => image.extend(copy),
+        2 => image[other..other + 512].copy_from_slice(&copy),
+        _ => {
+            image.copy_within(other..other + 512, one);
+            image[other..other + 512].copy_from_slice(&copy);
+        }
+    }
+}
+
+/// Damages an image, mostly so that its checks are right again and deeper tests are reached.
+fn damage(chance: &mut Chance, image: &mut Vec<u8>) {
+    loop {
+        match chance.below(10) {
+            0 => alter_blocks(chance, image),
+            1 => copy_field(chance, image),
+            _ => alter_byte(chance, image),
+        }
+        if chance.percent(70) {
+            break;
+        }
+    }
+    if chance.percent(85) {
+        reseal(image);
+    }
+    if chance.percent(5) {
+        image.truncate(chance.below(image.len() + 1));
+    }
+}
+
+/// Writes a stamp into every block of a table.
+fn restamp(table: &mut [u8], stamp: (u32, u32)) {
+    for block in table.chunks_exact_mut(512) {
+        block[16..24].copy_from_slice(&sums_bytes(stamp));
+    }
+    reseal(table);
+}
+
+/// Puts all four calls to what may be damaged.
+fn all_calls(comparing: &mut Comparing, policy: &[u8], table: &[u8], request: &[u8]) {
+    comparing.check_policy(policy);
+    comparing.check_table(policy, table);
+    comparing.fresh_table(policy, &mut table.to_vec());
+    comparing.decide(policy, &mut table.to_vec(), request);
+}
+
+/// A world, a table in use and a request, one or more of them damaged in several ways.
+fn damaged_images(comparing: &mut Comparing, chance: &mut Chance) {
+    let world = World::small(chance);
+    let blocks = chance.from(1, 3);
+    let count = chance.from(0, places(blocks));
+    let records = world.records(chance, count);
+    let table = write_table(world.stamp(), &records, blocks);
+    for _ in 0..20 {
+        let (mut policy, mut table) = (world.image.clone(), table.clone());
+        let [bad_policy, bad_table, bad_request] = chance.pick(&[
+            [true, false, false],
+            [false, true, false],
+            [false, false, true],
+            [true, true, false],
+            [false, true, true],
+        ]);
+        if bad_policy {
+            damage(chance, &mut policy);
+            if policy.len() % 4 == 0 && chance.percent(50) {
+                restamp(&mut table, sums(&policy));
+            }
+        }
+        if bad_table {
+            damage(chance, &mut table);
+        }
+        let request = world.request(chance);
+        let request = request_bytes(chance, &request, if bad_request { 80 } else { 5 });
+        all_calls(comparing, &policy, &table, &request);
+    }
+}
+
+fn must_have_seen_in_damaged_images(seen: &Seen, times: usize) {
+    for call in ["check_policy", "check_table", "fresh_table", "decide"] {
+        seen.must_refuse(call, &POLICY_NUMBERS, times);
+    }
+    for call in ["check_table", "decide"] {
+        seen.must_refuse(call, &TABLE_NUMBERS, times);
+    }
+    seen.must_refuse("fresh_table", &[11], times);
+    seen.must_refuse("decide", &REQUEST_NUMBERS, times);
+}
+
+#[test]
+fn damaged() {
+    let mut comparing = Comparing::new();
+    let one = damaged_images;
+    until(&mut comparing, "damaged images", SEED, 200_000, one);
+    must_have_seen_in_damaged_images(&comparing.seen, 500);
+    println!("{}", comparing.seen);
+}
+
+/// Every byte of a policy, of a table and of a request, resealed and not.
+fn every_byte(comparing: &mut Comparing, chance: &mut Chance) {
+    let world = World::small(chance);
+    let records = world.records(chance, 20);
+    let table = write_table(world.stamp(), &records, 2);
+    let request = write_request(&world.request(chance));
+    for at in 0..world.image.len() {
+        for sealed in [false, true] {
+            let mut policy = world.image.clone();
+            policy[at] = telling(chance, policy[at]);
+            if sealed {
+                reseal(&mut policy);
+            }
+            let mut table = table.clone();
+            restamp(&mut table, sums(&policy));
+            all_calls(comparing, &policy, &table, &request);
+        }
+    }
+    for at in 0..table.len() {
+        for sealed in [false, true] {
+            let mut table = table.clone();
+            table[at] = telling(chance, table[at]);
+            if sealed {
+                reseal(&mut table);
+            }
+            all_calls(comparing, &world.image, &table, &request);
+        }
+    }
+    for at in 0..request.len() {
+        for value in 0..=255 {
+            let mut request = request;
+            request[at] = value;
+            comparing.decide(&world.image, &mut table.clone(), &request);
+        }
+    }
+}
+
+#[test]
+fn every_byte_damaged() {
+    let mut comparing = Comparing::new();
+    until(&mut comparing, "every byte", SEED, 60_000, every_byte);
+    let seen = &comparing.seen;
+    seen.must_refuse("decide", &[2, 3, 4, 5, 6, 12, 13, 14, 15, 22], 30);
+    println!("{seen}");
+}
+
+/// Lengths up to a little more than two blocks, and around the longest.
+#[test]
+fn lengths() {
+    let mut comparing = Comparing::new();
+    let mut chance = Chance::new(SEED);
+    let world = World::small(&mut chance);
+    let request = write_request(&world.request(&mut chance));
+    let table = write_table(world.stamp(), &[], 1);
+    let around = |blocks: usize| [512 * blocks - 1, 512 * blocks, 512 * blocks + 1];
+    let short = 0..1_100;
+
+    for length in short.clone().chain(around(64)).chain(around(65)) {
+        let mut policy = world.image.clone();
+        policy.resize(length, 0);
+        all_calls(&mut comparing, &policy, &table, &request);
+    }
+    for length in short.chain(around(128)).chain(around(129)) {
+        let mut table = table.clone();
+        table.resize(length, 0);
+        all_calls(&mut comparing, &world.image, &table, &request);
+    }
+    for length in 0..100 {
+        let mut request = request.to_vec();
+        request.resize(length, 0);
+        let reply = comparing.decide(&world.image, &mut table.clone(), &request);
+        assert_eq!(reply.number == 21, length != 28);
+    }
+    comparing.seen.must_refuse("fresh_table", &[1, 11], 1_000);
+}
+
+// ---------------------------------------------------------------------------------------------
+// The long run
+
+fn number_from(name: &str, otherwise: u64) -> u64 {
+    std::env::var(name).map_or(otherwise, |text| text.parse().expect("a number"))
+}
+
+#[test]
+#[ignore = "takes long; see the top of this file"]
+fn long() {
+    let seed = number_from("SOD_SEED", SEED + 1);
+    let times = number_from("SOD_TIMES", 1) as usize;
+    type Part = (&'static str, usize, fn(&mut Comparing, &mut Chance));
+    let parts: [Part; 7] = [
+        ("small lists", 7_000_000, small_list),
+        ("middling lists", 100_000, middling_list),
+        ("large lists", 15_000, large_list),
+        ("strange tables", 2_000_000, strange_table),
+        ("strange large tables", 10_000, strange_large_table),
+        ("damaged images", 1_000_000, damaged_images),
+        ("every byte", 500_000, every_byte),
+    ];
+    let mut all = 0;
+    for (part, decisions, one) in parts {
+        let mut comparing = Comparing::new();
+        until(&mut comparing, part, seed, decisions * times, one);
+        println!("{part}: {}", comparing.seen);
+        all += comparing.seen.decisions;
+        match part {
+            "small lists" | "strange tables" => must_have_seen_in_lists(&comparing.seen, 10_000),
+            "damaged images" => must_have_seen_in_damaged_images(&comparing.seen, 3_000),
+            _ => {}
+        }
+    }
+    println!("{all} decisions in all, from seed {seed}");
+}

@@ -1,0 +1,81 @@
+//! The four C functions of include/sod.h from the independent judge, so that wrapper, examples and
+//! tests can be tried where the engine's archive is not at hand. For the feature `stand-in` only.
+
+#![allow(unsafe_code)]
+
+#[path = "../independent/mod.rs"]
+mod independent;
+
+use crate::raw::Reply;
+use independent::quick;
+use std::slice::{from_raw_parts, from_raw_parts_mut};
+
+impl From<independent::Reply> for Reply {
+    fn from(reply: independent::Reply) -> Reply {
+        Reply {
+            number: reply.number,
+            first: reply.first,
+            second: reply.second,
+            third: reply.third,
+        }
+    }
+}
+
+/// Any pointer will do for no bytes.
+unsafe fn lent<'a>(bytes: *const u8, len: usize) -> &'a [u8] {
+    if len == 0 {
+        &[]
+    } else {
+        from_raw_parts(bytes, len)
+    }
+}
+
+unsafe fn lent_mut<'a>(bytes: *mut u8, len: usize) -> &'a mut [u8] {
+    if len == 0 {
+        &mut []
+    } else {
+        from_raw_parts_mut(bytes, len)
+    }
+}
+
+#[no_mangle]
+unsafe extern "C" fn sod_check_policy(policy: *const u8, policy_len: usize) -> Reply {
+    quick::check_policy(lent(policy, policy_len)).into()
+}
+
+#[no_mangle]
+unsafe extern "C" fn sod_check_table(
+    policy: *const u8,
+    policy_len: usize,
+    table: *const u8,
+    table_len: usize,
+) -> Reply {
+    quick::check_table(lent(policy, policy_len), lent(table, table_len)).into()
+}
+
+#[no_mangle]
+unsafe extern "C" fn sod_fresh_table(
+    policy: *const u8,
+    policy_len: usize,
+    table: *mut u8,
+    table_len: usize,
+) -> Reply {
+    quick::fresh_table(lent(policy, policy_len), lent_mut(table, table_len)).into()
+}
+
+#[no_mangle]
+unsafe extern "C" fn sod_decide(
+    policy: *const u8,
+    policy_len: usize,
+    table: *mut u8,
+    table_len: usize,
+    request: *const u8,
+    request_len: usize,
+) -> Reply {
+    quick::decide(
+        lent(policy, policy_len),
+        lent_mut(table, table_len),
+        lent(request, request_len),
+    )
+    .into()
+}

@@ -1,0 +1,217 @@
+//! One call put to the engine and to both independent judges, and all that comes of it compared.
+
+use super::lent::{Lay, Lent};
+use crate::independent::{judge, quick, Reply};
+use hastovimen::raw;
+use std::collections::BTreeMap;
+use std::fmt;
+
+/// How often each answer was seen.
+#[derive(Default)]
+pub struct Seen {
+    pub decisions: usize,
+    refusals: BTreeMap<(&'static str, u32), usize>,
+    grants: BTreeMap<Kind, usize>,
+}
+
+/// A kind of grant: whether it recorded, removed some, and left some.
+type Kind = (bool, bool, bool);
+
+/// All kinds that there are: what records holds one at least.
+pub const KINDS: [Kind; 6] = [
+    (false, false, false),
+    (false, false, true),
+    (false, true, false),
+    (false, true, true),
+    (true, false, true),
+    (true, true, true),
+];
+
+pub const POLICY_NUMBERS: [u32; 6] = [1, 2, 3, 4, 5, 6];
+pub const TABLE_NUMBERS: [u32; 5] = [11, 12, 13, 14, 15];
+pub const REQUEST_NUMBERS: [u32; 2] = [21, 22];
+pub const JUDGE_NUMBERS: [u32; 4] = [31, 32, 33, 34];
+
+impl Seen {
+    fn take(&mut self, call: &'static str, reply: Reply) {
+        if reply.is_refusal() {
+            *self.refusals.entry((call, reply.number)).or_default() += 1;
+        } else if call == "decide" {
+            let kind = (reply.first != 0, reply.second != 0, reply.third != 0);
+            *self.grants.entry(kind).or_default() += 1;
+        }
+        self.decisions += usize::from(call == "decide");
+    }
+
+    pub fn refused(&self, call: &'static str, number: u32) -> usize {
+        self.refusals.get(&(call, number)).copied().unwrap_or(0)
+    }
+
+    /// Fails unless the call was refused by each of these numbers so many times.
+    pub fn must_refuse(&self, call: &'static str, numbers: &[u32], times: usize) {
+        for &number in numbers {
+            let seen = self.refused(call, number);
+            assert!(seen >= times, "{call} gave {number} {seen} times\n{self}");
+        }
+    }
+
+    /// Fails unless each of these kinds of grant was seen so many times.
+    pub fn must_grant(&self, kinds: &[Kind], times: usize) {
+        for kind in kinds {
+            let seen = self.grants.get(kind).copied().unwrap_or(0);
+            assert!(
+                seen >= times,
+                "grant {kind:?} was seen {seen} times\n{self}"
+            );
+        }
+    }
+}
+
+impl fmt::Display for Seen {
+    fn fmt(&self, f: &mut fmt::Formatter) -> fmt::Result {
+        writeln!(f, "{} decisions", self.decisions)?;
+        for ((recorded, removed, held), times) in &self.grants {
+            let some = |yes: &bool| if *yes { "some" } else { "0" };
+            let recorded = u8::from(*recorded);
+            let (removed, held) = (some(removed), some(held));
+            writeln!(
+                f,
+                "  grant, recorded {recorded}, removed {removed}, held {held}: {times}"
+            )?;
+        }
+        for ((call, number), times) in &self.refusals {
+            writeln!(f, "  {call} refused by {number}: {times}")?;
+        }
+        Ok(())
+    }
+}
+
+/// Lends memory to the engine and compares.
+pub struct Comparing {
+    policy: Lent,
+    table: Lent,
+    request: Lent,
+    calls: usize,
+    pub seen: Seen,
+}
+
+/// More than the longest images, so that longer ones can be lent too.
+const LONGEST_POLICY: usize = 512 * 66;
+const LONGEST_TABLE: usize = 512 * 130;
+const LONGEST_REQUEST: usize = 512;
+
+impl Comparing {
+    pub fn new() -> Comparing {
+        Comparing {
+            policy: Lent::new(LONGEST_POLICY),
+            table: Lent::new(LONGEST_TABLE),
+            request: Lent::new(LONGEST_REQUEST),
+            calls: 0,
+            seen: Seen::default(),
+        }
+    }
+
+    pub fn check_policy(&mut self, policy: &[u8]) -> Reply {
+        self.lay(policy, &[], &[]);
+        let reply = plain(raw::check_policy(self.policy.bytes()));
+        assert_eq!(reply, quick::check_policy(policy), "quick judge");
+        assert_eq!(reply, judge::check_policy(policy), "judge");
+        self.nothing_altered(policy, &[], &[]);
+        self.done("check_policy", reply)
+    }
+
+    pub fn check_table(&mut self, policy: &[u8], table: &[u8]) -> Reply {
+        self.lay(policy, table, &[]);
+        let reply = plain(raw::check_table(self.policy.bytes(), self.table.bytes()));
+        assert_eq!(reply, quick::check_table(policy, table), "quick judge");
+        assert_eq!(reply, judge::check_table(policy, table), "judge");
+        self.nothing_altered(policy, table, &[]);
+        self.done("check_table", reply)
+    }
+
+    /// Makes a fresh table in `table`, whatever it holds.
+    pub fn fresh_table(&mut self, policy: &[u8], table: &mut [u8]) -> Reply {
+        self.lay(policy, table, &[]);
+        let reply = plain(raw::fresh_table(
+            self.policy.bytes(),
+            self.table.bytes_mut(),
+        ));
+        let (mut by_quick, mut by_judge) = (table.to_vec(), table.to_vec());
+        assert_eq!(reply, quick::fresh_table(policy, &mut by_quick), "quick");
+        assert_eq!(reply, judge::fresh_table(policy, &mut by_judge), "judge");
+        self.new_table(reply, policy, table, &[], &by_quick, &by_judge);
+        self.done("fresh_table", reply)
+    }
+
+    /// Decides, and brings `table` up to date.
+    pub fn decide(&mut self, policy: &[u8], table: &mut [u8], request: &[u8]) -> Reply {
+        self.lay(policy, table, request);
+        let reply = plain(raw::decide(
+            self.policy.bytes(),
+            self.table.bytes_mut(),
+            self.request.bytes(),
+        ));
+        let (mut by_quick, mut by_judge) = (table.to_vec(), table.to_vec());
+        let quick = quick::decide(policy, &mut by_quick, request);
+        assert_eq!(reply, quick, "quick judge");
+        let judge = judge::decide(policy, &mut by_judge, request);
+        assert_eq!(reply, judge, "judge");
+        self.new_table(reply, policy, table, request, &by_quick, &by_judge);
+        self.done("decide", reply)
+    }
+
+    /// Compares what a call has made of the table; takes it over if the call was not refused.
+    fn new_table(
+        &mut self,
+        reply: Reply,
+        policy: &[u8],
+        table: &mut [u8],
+        request: &[u8],
+        by_quick: &[u8],
+        by_judge: &[u8],
+    ) {
+        if !reply.is_refusal() {
+            table.copy_from_slice(by_judge);
+        }
+        assert!(by_quick == table, "the quick judge's table is another");
+        assert!(by_judge == table, "a refused call altered the table");
+        self.nothing_altered(policy, table, request);
+    }
+
+    fn lay(&mut self, policy: &[u8], table: &[u8], request: &[u8]) {
+        let lay = match self.calls % 2 {
+            0 => Lay::AtTheEnd,
+            _ => Lay::AtTheBeginning,
+        };
+        self.policy.lay(policy, lay);
+        self.table.lay(table, lay);
+        self.request.lay(request, lay);
+    }
+
+    /// The lent buffers are as told, and so are the bytes around them.
+    fn nothing_altered(&mut self, policy: &[u8], table: &[u8], request: &[u8]) {
+        assert!(self.policy.bytes() == policy, "the policy was altered");
+        assert!(self.table.bytes() == table, "the engine's table is another");
+        assert!(self.request.bytes() == request, "the request was altered");
+        let all = [&mut self.policy, &mut self.table, &mut self.request];
+        for lent in all {
+            assert!(lent.canaries_live(), "something outside was altered");
+        }
+    }
+
+    fn done(&mut self, call: &'static str, reply: Reply) -> Reply {
+        self.calls += 1;
+        self.seen.take(call, reply);
+        reply
+    }
+}
+
+/// The engine's reply in the type of the independent judges.
+fn plain(reply: raw::Reply) -> Reply {
+    Reply {
+        number: reply.number,
+        first: reply.first,
+        second: reply.second,
+        third: reply.third,
+    }
+}

@@ -1,0 +1,9 @@
+//! What the tests have in common: numbers by chance, worlds to try, lent memory, and the comparing.
+
+// Each test takes in this module whole and uses a part of it.
+#![allow(dead_code)]
+
+pub mod chance;
+pub mod compare;
+pub mod lent;
+pub mod world;

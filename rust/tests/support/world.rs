@@ -1,0 +1,363 @@
+//! Policies made so that their rules meet, and the requests to put to them.
+//!
+//! A world has few users, roles, privileges and context values, so that the same run place is come
+//! back to, by the same people and by others, and so that one step is the first of one rule and the
+//! last of another.
+
+use super::chance::Chance;
+use crate::independent::images::*;
+use crate::independent::judge::fits;
+
+pub struct World {
+    pub policy: Policy,
+    pub image: Vec<u8>,
+    users: Vec<u32>,
+    roles: Vec<u16>,
+    privileges: Vec<Privilege>,
+    /// The type of each level, by which rules and contexts mostly go.
+    kinds: Vec<u16>,
+    values: Vec<u16>,
+}
+
+/// How big a world is made.
+struct Size {
+    rules: usize,
+    exclusions: (usize, usize),
+    users: usize,
+    roles: usize,
+    privileges: usize,
+    values: usize,
+    /// The permission blocks, and the most entries of one.
+    permissions: (usize, usize),
+    /// What the depth of a rule is picked from.
+    depths: &'static [usize],
+    /// How many of a hundred levels have a fixed value.
+    fixed: usize,
+    /// The fewest members of an exclusion.
+    members: usize,
+    /// In how many of a hundred exclusions m is n; in the others it is anything.
+    lenient: usize,
+    /// How many of a hundred rules have a first, a last step.
+    first: usize,
+    last: usize,
+}
+
+impl Size {
+    const LARGE: Size = Size {
+        rules: 32,
+        exclusions: (8, 8),
+        users: 40,
+        roles: 16,
+        privileges: 40,
+        values: 12,
+        permissions: (32, 61),
+        depths: &[1, 2, 2, 3, 3, 4],
+        fixed: 20,
+        members: 6,
+        lenient: 100,
+        first: 0,
+        last: 10,
+    };
+}
+
+impl World {
+    /// A world in which the same few things meet again and again.
+    pub fn small(chance: &mut Chance) -> World {
+        let size = Size {
+            rules: match chance.below(20) {
+                0 => 0,
+                1 => chance.from(6, 32),
+                _ => chance.from(1, 5),
+            },
+            exclusions: (1, if chance.percent(10) { 8 } else { 3 }),
+            users: chance.from(1, 5),
+            roles: chance.from(2, 9),
+            privileges: chance.from(3, 9),
+            values: chance.from(1, 3),
+            permissions: (chance.from(1, 3), 12),
+            depths: &[0, 1, 1, 1, 2, 2, 2, 3, 4],
+            fixed: 20,
+            members: 2,
+            lenient: chance.pick(&[10, 60, 95]),
+            first: chance.pick(&[0, 30, 60]),
+            last: chance.pick(&[10, 50, 90]),
+        };
+        let mut world = World::of(chance, size);
+        if chance.percent(2) {
+            world.policy.permissions.clear();
+        } else if chance.percent(10) {
+            world.policy.permissions.push(vec![]);
+        }
+        if world.policy.rules.is_empty() && world.policy.permissions.is_empty() {
+            world.policy.permissions.push(vec![]);
+        }
+        world.image = write_policy(&world.policy);
+        world
+    }
+
+    /// The biggest policies: 32 rules of 8 exclusions, 64 blocks.
+    pub fn large(chance: &mut Chance) -> World {
+        let size = Size {
+            users: chance.from(5, 40),
+            privileges: chance.from(10, 40),
+            values: chance.from(2, 12),
+            fixed: chance.pick(&[20, 50, 80]),
+            members: chance.from(2, 5),
+            lenient: chance.pick(&[50, 90, 100]),
+            first: chance.pick(&[0, 30]),
+            last: chance.pick(&[0, 40, 100]),
+            ..Size::LARGE
+        };
+        World::of(chance, size)
+    }
+
+    /// A big policy under which so much is granted and so little forgotten that 128 blocks fill up.
+    pub fn lenient(chance: &mut Chance) -> World {
+        World::of(chance, Size::LARGE)
+    }
+
+    fn of(chance: &mut Chance, size: Size) -> World {
+        let as_u16 = |numbers: Vec<usize>| numbers.iter().map(|&n| n as u16).collect::<Vec<_>>();
+        // Some have the operation in common, some the target.
+        let operations = as_u16(chance.different(size.privileges.div_ceil(2), 65535));
+        let targets = as_u16(chance.different(3, 65535));
+        let mut privileges = vec![];
+        while privileges.len() < size.privileges {
+            let (operation, target) = (chance.pick(&operations), chance.pick(&targets));
+            let privilege = Privilege { operation, target };
+            if !privileges.contains(&privilege) {
+                privileges.push(privilege);
+            }
+        }
+        let users = chance.different(size.users, u32::MAX as usize);
+        let mut world = World {
+            policy: Policy {
+                rules: vec![],
+                permissions: vec![],
+            },
+            image: vec![],
+            users: users.iter().map(|&user| user as u32).collect(),
+            roles: as_u16(chance.different(size.roles, 32)),
+            privileges,
+            kinds: as_u16(chance.different(4, 65535)),
+            values: as_u16(chance.different(size.values, 65535)),
+        };
+        world.policy.rules = (0..size.rules).map(|_| world.rule(chance, &size)).collect();
+        let (blocks, most) = size.permissions;
+        world.policy.permissions = (0..blocks)
+            .map(|_| {
+                let entries = chance.from(most / 2, most);
+                (0..entries).map(|_| world.permission(chance)).collect()
+            })
+            .collect();
+        world.image = write_policy(&world.policy);
+        world
+    }
+
+    fn rule(&self, chance: &mut Chance, size: &Size) -> Rule {
+        let depth = chance.pick(size.depths);
+        let levels = (0..depth)
+            .map(|i| self.level(chance, i, size.fixed))
+            .collect();
+        let first = chance.percent(size.first).then(|| self.privilege(chance));
+        let last = chance.percent(size.last).then(|| self.privilege(chance));
+        let exclusions = chance.from(size.exclusions.0, size.exclusions.1);
+        Rule {
+            levels,
+            first,
+            last: last.filter(|_| last != first),
+            exclusions: (0..exclusions)
+                .map(|_| self.exclusion(chance, size))
+                .collect(),
+        }
+    }
+
+    fn level(&self, chance: &mut Chance, i: usize, fixed: usize) -> Level {
+        let mark = if chance.percent(fixed) {
+            Mark::Fixed(self.value(chance))
+        } else {
+            chance.pick(&[Mark::Every, Mark::Each])
+        };
+        let kind = self.kind(chance, i);
+        Level { kind, mark }
+    }
+
+    fn exclusion(&self, chance: &mut Chance, size: &Size) -> Exclusion {
+        let of_roles = chance.percent(40);
+        let most = if of_roles { self.roles.len().min(8) } else { 8 };
+        let n = chance.from(size.members.min(most), most);
+        let m = if chance.percent(size.lenient) {
+            n
+        } else {
+            chance.from(2, n)
+        };
+        let members = if of_roles {
+            let mut roles = self.roles.clone();
+            while roles.len() > n {
+                roles.swap_remove(chance.below(roles.len()));
+            }
+            Members::Roles(roles)
+        } else {
+            // Few different ones, so that many are listed more than once.
+            let different: Vec<Privilege> = (0..chance.from(1, n))
+                .map(|_| self.privilege(chance))
+                .collect();
+            Members::Privileges((0..n).map(|_| chance.pick(&different)).collect())
+        };
+        Exclusion { m, members }
+    }
+
+    fn permission(&self, chance: &mut Chance) -> Permission {
+        Permission {
+            role: chance.pick(&self.roles),
+            privilege: self.privilege(chance),
+        }
+    }
+
+    fn privilege(&self, chance: &mut Chance) -> Privilege {
+        chance.pick(&self.privileges)
+    }
+
+    fn value(&self, chance: &mut Chance) -> u16 {
+        chance.pick(&self.values)
+    }
+
+    /// The type that belongs at a level; now and then another one.
+    fn kind(&self, chance: &mut Chance, level: usize) -> u16 {
+        if chance.percent(96) {
+            self.kinds[level]
+        } else {
+            chance.pick(&self.kinds)
+        }
+    }
+
+    /// A good request. Most are for something that one of the roles is permitted.
+    pub fn request(&self, chance: &mut Chance) -> Request {
+        if !self.policy.rules.is_empty() && chance.percent(30) {
+            return self.request_for_a_rule(chance);
+        }
+        let (role, privilege) = if chance.percent(92) {
+            let privilege = self.permitted_privilege(chance);
+            (self.role_for(chance, privilege), privilege)
+        } else {
+            (chance.pick(&self.roles), self.privilege(chance))
+        };
+        let depth = chance.pick(&[0, 1, 1, 2, 2, 2, 3, 3, 4, 4, 4]);
+        Request {
+            user: chance.pick(&self.users),
+            roles: self.with_others(chance, role),
+            privilege,
+            context: self.context(chance, depth),
+        }
+    }
+
+    /// A request whose context fits some rule, often for the rule's first or last step.
+    fn request_for_a_rule(&self, chance: &mut Chance) -> Request {
+        let rule = chance.pick(&self.policy.rules);
+        let step = chance.pick(&[rule.first, rule.last, rule.last]);
+        let privilege = step.unwrap_or_else(|| self.permitted_privilege(chance));
+        let depth = chance.from(rule.levels.len(), 4);
+        let mut context = self.context(chance, depth);
+        for (level, (kind, value)) in rule.levels.iter().zip(&mut context) {
+            *kind = level.kind;
+            if let Mark::Fixed(wanted) = level.mark {
+                *value = wanted;
+            }
+        }
+        let role = self.role_for(chance, privilege);
+        Request {
+            user: chance.pick(&self.users),
+            roles: self.with_others(chance, role),
+            privilege,
+            context,
+        }
+    }
+
+    fn permitted_privilege(&self, chance: &mut Chance) -> Privilege {
+        let block = self.policy.permissions.iter().find(|b| !b.is_empty());
+        match block {
+            Some(block) => chance.pick(block).privilege,
+            None => self.privilege(chance),
+        }
+    }
+
+    /// A role that is permitted the privilege, if there is one.
+    fn role_for(&self, chance: &mut Chance, privilege: Privilege) -> u16 {
+        let permitted: Vec<u16> = (self.policy.permissions.iter().flatten())
+            .filter(|entry| entry.privilege == privilege)
+            .map(|entry| entry.role)
+            .collect();
+        if permitted.is_empty() {
+            chance.pick(&self.roles)
+        } else {
+            chance.pick(&permitted)
+        }
+    }
+
+    /// A set of active roles: this one, and now and then others.
+    fn with_others(&self, chance: &mut Chance, role: u16) -> u32 {
+        let mut roles = 1 << (role - 1);
+        while chance.percent(20) {
+            roles |= 1 << (chance.pick(&self.roles) - 1);
+        }
+        roles
+    }
+
+    fn context(&self, chance: &mut Chance, depth: usize) -> Context {
+        (0..depth)
+            .map(|i| (self.kind(chance, i), self.value(chance)))
+            .collect()
+    }
+
+    /// Records that pass a table's check, of any users in any order and with any marks that fit;
+    /// mostly no list of requests leads to them. Fewer if no rule fits what chance brings.
+    pub fn records(&self, chance: &mut Chance, count: usize) -> Vec<Record> {
+        let marks_mask = chance.next() as u32 | chance.next() as u32;
+        (0..count)
+            .filter_map(|_| {
+                let request = self.request(chance);
+                let fitting = (self.policy.rules.iter().enumerate())
+                    .filter(|(_, rule)| fits(rule, &request.context))
+                    .fold(0, |set, (r, _)| set | 1 << r);
+                let some = fitting & chance.next() as u32 & marks_mask;
+                let marks = if some == 0 { fitting } else { some };
+                (marks != 0).then_some(Record { request, marks })
+            })
+            .collect()
+    }
+
+    pub fn stamp(&self) -> (u32, u32) {
+        sums(&self.image)
+    }
+}
+
+/// A request's bytes; a few in a hundred are damaged in length or content.
+pub fn request_bytes(chance: &mut Chance, request: &Request, damaged: usize) -> Vec<u8> {
+    let mut bytes = write_request(request).to_vec();
+    if !chance.percent(damaged) {
+        return bytes;
+    }
+    match chance.below(8) {
+        0 => bytes.truncate(chance.below(REQUEST)),
+        1 => bytes.extend((0..chance.from(1, 40)).map(|_| 0)),
+        2 => bytes[..4].fill(0),
+        3 => bytes[4..8].fill(0),
+        4 => {
+            let field = 8 + 2 * chance.below(10);
+            bytes[field..field + 2].fill(0);
+        }
+        5 => {
+            let level = 12 + 4 * chance.below(4);
+            bytes[level..level + 4].fill(0);
+        }
+        6 => {
+            let field = 12 + 2 * chance.below(8);
+            bytes[field] ^= 1;
+        }
+        _ => {
+            let at = chance.below(REQUEST);
+            bytes[at] = chance.pick(&[0, 1, 2, 255]);
+        }
+    }
+    bytes
+}
