@@ -1,17 +1,17 @@
--- `trial::decide_all` runs safely and ends: the ordinal grows to a bound, and the table keeps its length.
+-- `console::session::decide_all` runs safely and ends: the ordinal grows to a bound, and the table keeps its length.
 -- Assumes nothing.
 use Prim.Native.Nat.{_-_}
 use mathlib.Core.Path.{_≡_}
 use lib.ListN.{length}
 use borrow.Author.Needs.{needs}
-use Rattle.trial.proofs.decide_all.Statement.{statement}
-use Rattle.trial.proofs.decide_all.Tie as tie
+use Rattle.console.proofs.session.decide_all.Statement.{statement}
+use Rattle.console.proofs.session.decide_all.Tie as tie
 
 abbrev Inv-loop : tie.InvT-loop
-Inv-loop policy table₀ ordinal₀ table ordinal = length table ≡ length table₀
+Inv-loop input policy table₀ ordinal₀ table ordinal = length table ≡ length table₀
 
 abbrev μ-loop : tie.MeasureT-loop
-μ-loop policy table₀ ordinal₀ table ordinal = 18446744073709551615 - ordinal
+μ-loop input policy table₀ ordinal₀ table ordinal = 18446744073709551615 - ordinal
 
 loop-holds : tie.Need-loop-holds Inv-loop μ-loop
 loop-holds c = search needs

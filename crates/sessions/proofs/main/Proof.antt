@@ -1,0 +1,58 @@
+-- `sessions::main` runs safely and ends: the arguments are as many as they are.
+-- Assumes nothing.
+use Prim.Native.Nat.{_-_}
+use borrow.Author.Needs.{needs}
+use Rattle.sessions.proofs.main.Statement.{statement}
+use Rattle.sessions.proofs.main.Tie as tie
+use Rattle.sessions.proofs.main.Reads as reads
+use Rattle.sessions.proofs.main.Lts as lts
+use Rattle.os.proofs.arg_count.Reads as arg-count-reads
+use Rattle.sessions.proofs.run_file.Reads as run-file-reads
+
+abbrev Inv-loop : tie.InvT-loop
+Inv-loop n i₀ i = Unit {0}
+
+abbrev μ-loop : tie.MeasureT-loop
+μ-loop n i₀ i = n - i
+
+-- src/main.rt:25:9
+arg-count-requires : tie.Need-arg-count-requires Inv-loop μ-loop
+arg-count-requires c κs = search needs
+
+-- src/main.rt:26:5
+loop-holds : tie.Need-loop-holds Inv-loop μ-loop
+loop-holds c = search needs
+
+-- src/main.rt:27:9
+run-file-requires : tie.Need-run-file-requires Inv-loop μ-loop
+run-file-requires c κs = search needs
+
+-- src/main.rt:26:9
+add-i : tie.Need-add-i Inv-loop μ-loop
+add-i c = search needs
+
+-- src/main.rt:26:5
+loop-less : tie.Need-loop-less Inv-loop μ-loop
+loop-less c = search needs
+
+-- src/main.rt:26:5
+loop-again : tie.Need-loop-again Inv-loop μ-loop
+loop-again c = search needs
+
+-- src/main.rt:24:1
+returns : tie.Need-returns Inv-loop μ-loop
+returns c = search needs
+
+pub main-spec : {M : Type 1} → statement M
+main-spec =
+    tie.close
+    (tie.spec
+    Inv-loop
+    μ-loop
+    arg-count-requires
+    loop-holds
+    run-file-requires
+    add-i
+    loop-less
+    loop-again
+    returns)
