@@ -2,9 +2,9 @@
 ghost use mathlib.Core.Path.{_≡_};
 ghost use Prim.Native.Nat.{_+_, _*_, _<_, _≤_};
 ghost use lib.ListN.{length};
-ghost use Rattle.words.specs.Bytes.{part};
-ghost use Rattle.words.specs.Sums.{sums, words, addWord};
-ghost use Rattle.words.specs.Code.{sumsOf};
+ghost use Rattle.words.specs.Bytes.{u32At, part};
+ghost use Rattle.words.specs.Sums.{sums, words, addWord, wrap};
+ghost use Rattle.words.specs.Code.{sumsOf, wordFrom, fourOf, fours, together as togetherOf};
 use crate::field::u32_at;
 use std::num::wrapping_add_u32;
 
@@ -27,13 +27,85 @@ impl Sum {
     }
 }
 
-// The sums over n words from a place on.
+// Four states side by side, each from 0: word 4 * i + l goes to state l. In one state a word waits for the word before it; side by side four go on at
+// once, and the compiler makes one wide add of them.
+pub struct Four {
+    pub w: Sum,
+    pub x: Sum,
+    pub y: Sum,
+    pub z: Sum,
+}
+
+// One more word, as it stands in bytes.
+fn add_at(sum: Sum, s: &[u8], at: usize) -> Sum
+    requires { ⌜ at + 4 ≤ length (now s) ⌝ }
+    ensures { λ r. ⌜ sumsOf r ≡ addWord (sumsOf sum) (u32At (now (s .entry)) at) ⌝ }
+{
+    sum.add(u32_at(s, at))
+}
+
+// The four states after n words each.
+fn sum_fours(s: &[u8], at: usize, n: usize) -> Four
+    requires { ⌜ at + 16 * n ≤ length (now s) ⌝ }
+    ensures { λ r. ⌜ fourOf r ≡ fours (wordFrom (now (s .entry)) at) n ⌝ }
+{
+    let mut w = Sum { a: 0, b: 0 };
+    let mut x = Sum { a: 0, b: 0 };
+    let mut y = Sum { a: 0, b: 0 };
+    let mut z = Sum { a: 0, b: 0 };
+    for i in 0..n {
+        let from = at + 16 * i;
+        w = add_at(w, s, from);
+        x = add_at(x, s, from + 4);
+        y = add_at(y, s, from + 8);
+        z = add_at(z, s, from + 12);
+    }
+    Four { w, x, y, z }
+}
+
+// Four numbers together.
+fn total(w: u32, x: u32, y: u32, z: u32) -> u64
+    ensures { λ r. ⌜ (r ≡ w + x + y + z) × (r < 17179869184) ⌝ }
+{
+    w as u64 + x as u64 + y as u64 + z as u64
+}
+
+// How far three of the four states are behind the last word.
+fn behind(x: u32, y: u32, z: u32) -> u64
+    ensures { λ r. ⌜ (r ≡ x + 2 * y + 3 * z) × (r < 1099511627776) ⌝ }
+{
+    x as u64 + 2 * (y as u64) + 3 * (z as u64)
+}
+
+// A number wrapped at 2 to the 32.
+fn wrapped(x: u64) -> u32
+    ensures { λ r. ⌜ r ≡ wrap x ⌝ }
+{
+    (x % 4294967296) as u32
+}
+
+// What the four states come to as one, from a = 1 and b = 0, after n words each.
+fn together(four: Four, n: u64) -> Sum
+    requires { ⌜ n < 1152921504606846976 ⌝ }
+    ensures { λ r. ⌜ sumsOf r ≡ togetherOf (fourOf four) n ⌝ }
+{
+    let a = total(four.w.a, four.x.a, four.y.a, four.z.a);
+    let b = total(four.w.b, four.x.b, four.y.b, four.z.b);
+    let late = behind(four.x.a, four.y.a, four.z.a);
+    Sum {
+        a: wrapped(1 + a),
+        b: wrapped(4 * n + 4 * b + (1099511627776 - late)),
+    }
+}
+
+// The sums over n words from a place on: by fours, and the last ones by themselves.
 pub fn sum_words(s: &[u8], at: usize, n: usize) -> Sum
     requires { ⌜ at + 4 * n ≤ length (now s) ⌝ }
     ensures { λ r. ⌜ sumsOf r ≡ sums (words (part (now (s .entry)) at (4 * n))) ⌝ }
 {
-    let mut sum = Sum { a: 1, b: 0 };
-    for i in 0..n {
+    let k = n / 4;
+    let mut sum = together(sum_fours(s, at, k), k as u64);
+    for i in 4 * k..n {
         sum = sum.add(u32_at(s, at + 4 * i));
     }
     sum
