@@ -69,7 +69,7 @@ module _ (policy : List ℕ) (accepted : policyFault policy ≡ none) (b : ℕ) 
       (after-same qs (step l q .state) (fine-step policy accepted b some-block few-blocks l f q))
 
   -- the table that the calls leave is the image of the register that they leave
-  last-table : (requests : List (List ℕ)) → after (decide policy) (freshTable policy b) requests ≡ registerImage policy b (after step [] requests)
+  pub last-table : (requests : List (List ℕ)) → after (decide policy) (freshTable policy b) requests ≡ registerImage policy b (after step [] requests)
   last-table requests =
       rw (← fresh-image policy accepted b some-block few-blocks)
       (after-same requests [] (fine-start policy accepted b some-block few-blocks))

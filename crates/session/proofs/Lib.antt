@@ -1,0 +1,4 @@
+pub mod Turns
+pub mod Kept
+pub mod Examples
+pub mod Adequacy

@@ -1,0 +1,51 @@
+-- Demand 3, of code that runs: what a session promises, the table made fresh and "decisions put one after another" to it by the engine's own code.
+-- crates/register/specs/Demand3.antt states the claim over definitions; here it is the contract of a function that calls the engine.
+-- Assumes nothing.
+use Prim.Native.Nat.{ℕ}
+use mathlib.Core.Path.{_≡_}
+use mathlib.Core.List.{List, [], _∷_, map, flatten}
+use lib.ListN.{take, drop}
+use Rattle.format.specs.Answer.{Answer, accept, grant, refuse, Refusal}
+use Rattle.format.specs.Layout.{capacity}
+use Rattle.format.specs.Block.{blocks}
+use Rattle.format.specs.Calls.{makeTable}
+use Rattle.format.specs.Policy.{policyOf}
+use Rattle.register.specs.Register.{registerStep}
+use Rattle.register.specs.Image.{registerImage}
+use Rattle.register.specs.Demand3.{answers, NobodyEver}
+use Rattle.register.specs.Consequences.{after}
+
+-- The requests, "whatever the bytes and length of each": bytes cut one after another into pieces of these lengths. Where the bytes end early, a piece
+-- is what is left of them.
+unfoldable pub cut : List ℕ → List ℕ → List (List ℕ)
+cut bytes [] = []
+cut bytes (n ∷ ns) = take n bytes ∷ cut (drop n bytes) ns
+
+-- An answer in four numbers, as a caller of another language gets it: "number is 0 for acceptance and grant". Acceptance with its number; a grant with
+-- recorded, removed, held; a refusal with its number and two places.
+unfoldable pub fourNumbers : Answer → List ℕ
+fourNumbers (accept n) = 0 ∷ n ∷ 0 ∷ 0 ∷ []
+fourNumbers (grant recorded removed held) = 0 ∷ recorded ∷ removed ∷ held ∷ []
+fourNumbers (refuse r) = r .number ∷ r .first ∷ r .second ∷ 0 ∷ []
+
+-- the answers one after another, four numbers each
+unfoldable pub written : List Answer → List ℕ
+written l = flatten (map fourNumbers l)
+
+-- What is left of a session on a table of b blocks, "for every such list" of requests:
+pub record AsRegister (policy : List ℕ) (b : ℕ) (requests : List (List ℕ)) (answersAfter tableAfter : List ℕ) : Type 0 where
+  -- "Each answer, numbers included, equals that of the full register of document 01, which forgets no grant."
+  pub answers-same : answersAfter ≡ written (answers (registerStep (policyOf policy) (capacity b)) [] requests)
+  -- "The table is, byte by byte, the image of just those grants that some rule still counts, in the order granted and marked for exactly those rules."
+  pub table-same : tableAfter ≡ registerImage policy b (after (registerStep (policyOf policy) (capacity b)) [] requests)
+  -- "And at no point of the list has a user reached the forbidden number .. in any run of a rule, the step just granted counted in."
+  pub nobody : NobodyEver (policyOf policy) (capacity b) [] requests
+
+-- What a session of these requests does with a lent buffer for the table and another for the answers:
+pub record Ran (policy buffer : List ℕ) (requests : List (List ℕ)) (answersBefore : List ℕ) (reply : Answer) (answersAfter tableAfter : List ℕ) : Type 0 where
+  -- it replies as making the table does
+  pub made : reply ≡ makeTable policy buffer .answer
+  -- where no table is made (a bad policy, a bad length), no lent number is altered
+  pub refused : (r : Refusal) → reply ≡ refuse r → (tableAfter ≡ buffer) × (answersAfter ≡ answersBefore)
+  -- where one is made, demand 3 holds of the answers and of the table
+  pub kept : (n : ℕ) → reply ≡ accept n → AsRegister policy (blocks buffer) requests answersAfter tableAfter

@@ -1,0 +1,92 @@
+// A table made fresh, and the requests of any lengths decided on it one after another.
+ghost use mathlib.Core.Path.{_≡_};
+ghost use mathlib.Core.List.{[], _∷_};
+ghost use Prim.Native.Nat.{_+_, _-_, _*_, _≤_, min};
+ghost use lib.ListN.{length};
+ghost use lib.Seq.{sets};
+ghost use Rattle.judge.specs.Decide.{decide as decideOf};
+ghost use Rattle.register.specs.Demand3.{answers as answersOf};
+ghost use Rattle.register.specs.Consequences.{after};
+ghost use Rattle.engine.specs.Code.{answerOf};
+ghost use Rattle.session.specs.Session.{cut, fourNumbers, written, Ran};
+use engine::checks::make_table;
+use engine::deciding::decide;
+use engine::reply::Reply;
+
+// Where a request of n bytes ends that begins at a byte of these many.
+fn end_of(bytes: usize, at: usize, n: u32) -> usize
+    requires { ⌜ at ≤ bytes ⌝ }
+    ensures { λ r. ⌜ r ≡ at + min n (bytes - at) ⌝ }
+{
+    let length = n as usize;
+    if bytes - at < length {
+        return bytes;
+    }
+    at + length
+}
+
+// Writes four numbers.
+fn put_four(answers: &mut [u32], at: usize, number: u32, first: u32, second: u32, third: u32)
+    requires { ⌜ at + 4 ≤ length (now answers) ⌝ }
+    ensures { λ r. ⌜ now (answers .exit) ≡ sets (now (answers .entry)) at (number ∷ first ∷ second ∷ third ∷ []) ⌝ }
+{
+    answers[at] = number;
+    answers[at + 1] = first;
+    answers[at + 2] = second;
+    answers[at + 3] = third;
+}
+
+// Writes an answer's four numbers.
+fn put_answer(answers: &mut [u32], at: usize, answer: Reply)
+    requires { ⌜ at + 4 ≤ length (now answers) ⌝ }
+    ensures { λ r. ⌜ now (answers .exit) ≡ sets (now (answers .entry)) at (fourNumbers (answerOf answer)) ⌝ }
+{
+    match answer {
+        Reply::Accepted(n) => put_four(answers, at, 0, n, 0, 0),
+        Reply::Granted(g) => put_four(answers, at, 0, g.recorded, g.removed, g.held),
+        Reply::Refused(r) => put_four(answers, at, r.number, r.first, r.second, 0),
+    }
+}
+
+// Decides the requests one after another, each on the table as the last one left it.
+fn decide_each(
+    policy: &[u8],
+    table: &mut [u8],
+    requests: &[u8],
+    lengths: &[u32],
+    answers: &mut [u32],
+)
+    requires { ⌜ length (now answers) ≡ 4 * length (now lengths) ⌝ }
+    ensures { λ r. ⌜ now (table .exit) ≡ after (decideOf (now (policy .entry))) (now (table .entry)) (cut (now (requests .entry)) (now (lengths .entry))) ⌝ }
+    ensures { λ r. ⌜ now (answers .exit) ≡ written (answersOf (decideOf (now (policy .entry))) (now (table .entry)) (cut (now (requests .entry)) (now (lengths .entry)))) ⌝ }
+{
+    let mut at: usize = 0;
+    for i in 0..lengths.len() {
+        let end = end_of(requests.len(), at, lengths[i]);
+        let answer = decide(policy, table, &requests[at..end]);
+        put_answer(answers, 4 * i, answer);
+        at = end;
+    }
+}
+
+// Makes the table fresh under the policy, puts the requests to `decide` one after another, and writes each answer's four numbers.
+pub fn run(
+    policy: &[u8],
+    table: &mut [u8],
+    requests: &[u8],
+    lengths: &[u32],
+    answers: &mut [u32],
+) -> Reply
+    requires { ⌜ length (now answers) ≡ 4 * length (now lengths) ⌝ }
+    ensures { λ r. ⌜ Ran (now (policy .entry)) (now (table .entry)) (cut (now (requests .entry)) (now (lengths .entry))) (now (answers .entry)) (answerOf r) (now (answers .exit)) (now (table .exit)) ⌝ }
+{
+    let made = make_table(policy, table);
+    match made {
+        Reply::Accepted(_) => {
+            decide_each(policy, table, requests, lengths, answers);
+            made
+        }
+        Reply::Granted(_) => made,
+        Reply::Refused(_) => made,
+    }
+}
