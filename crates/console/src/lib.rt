@@ -1,2 +1,2 @@
-// The trial run of document 01 over an open file: what the program `trial` does with standard input, and the program `sessions` with files.
+// The trial run of document 01 over an open file: what the program `trial` does with standard input, and the program `trials` with files.
 pub mod session;
