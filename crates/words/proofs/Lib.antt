@@ -11,5 +11,6 @@ pub mod Bytes
 pub mod Parts
 pub mod Zeros
 pub mod Bits
+pub mod BitLaws
 pub mod Halves
 pub mod Sums
