@@ -1,7 +1,7 @@
--- What acceptance says of a policy's rules: the rule blocks come first, and each rule keeps document 01's limits.
+-- What acceptance says of a policy's rules: the rule blocks come first and stand in the image, and each rule keeps document 01's limits.
 -- Assumes nothing.
-use Prim.Native.Nat.{ℕ, zero, suc, _+_, _<_, _≤_}
-use mathlib.Core.Path.{_≡_, refl, sym, ap, _∙_}
+use Prim.Native.Nat.{ℕ, zero, suc, _+_, _*_, _<_, _≤_}
+use mathlib.Core.Path.{_≡_, refl}
 use mathlib.Core.Bool.{Bool, true, false, cond, not, _&&_, _||_}
 use mathlib.Core.List.{List}
 use mathlib.Core.Option.{none}
@@ -9,14 +9,16 @@ use native.Mathlib.Decide.{decLt}
 use native.Mathlib.Omega.{arith}
 use borrow.Author.Tests.{eqb-true, leb-true, ltb-true, not-true, lt-ltb}
 use lib.Dec.{eqb, ltb, leb}
+use lib.ListN.{length}
 use Rattle.words.specs.Lists.{allBelow, anyBelow, sumBelow}
 use Rattle.words.specs.Bytes.{byteAt}
 use Rattle.words.proofs.First.{none-first, none-second, passes-unless, none-at}
 use Rattle.words.proofs.Tests.{both-first, both-second, anyBelow-at}
-use Rattle.format.specs.Layout.{ruleKind, permissionKind, mostRules}
+use Rattle.format.specs.Layout.{blockBytes, policyBlocks, ruleKind, permissionKind, mostRules}
 use Rattle.format.specs.Block.{blocks, block, kind, number, total}
 use Rattle.format.specs.Rule.{Rule, Exclusion, ruleAt, goodLevel, blankLevel, goodSteps, goodRule, goodRoles, goodPrivileges, blankPrivilege, goodExclusion, goodRuleBytes, goodExclusionAt, ruleFault}
 use Rattle.format.specs.Policy.{policyFault, policyBlockFault, goodPolicyHeader, ruleCount}
+use Rattle.format.proofs.Accepted.{Blocked, blocked}
 
 -- ---- what comes first stands at the front
 
@@ -110,6 +112,14 @@ module _ (s : List ℕ) (accepted : policyFault s ≡ none) where
       go : Dec (mostRules < ruleCount s) → ruleCount s ≤ mostRules
       go (yes h) = absurd (omega (arith, rule-below mostRules h))
       go (no h) = omega arith
+
+  -- where a rule's block stands
+  pub policy-blocked : Blocked policyBlocks s
+  unfolding policyFault
+  policy-blocked = blocked policyBlocks s (passes-unless _ _ (none-first _ _ accepted))
+
+  pub rule-inside : (i : ℕ) → i < ruleCount s → blockBytes * i + blockBytes ≤ length s
+  rule-inside i h = omega (arith, rules-few, policy-blocked .whole-blocks)
 
   rule-accepted : (i : ℕ) → i < ruleCount s → ruleFault i (block s i) ≡ none
   unfolding policyBlockFault

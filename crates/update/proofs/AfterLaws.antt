@@ -1,6 +1,6 @@
 -- The table that each of the three ways of writing leaves.
 -- Assumes nothing.
-use Prim.Native.Nat.{ℕ, _+_, _*_, _/_, _<_, _≤_}
+use Prim.Native.Nat.{ℕ, _+_, _*_, _/_, _<_, _≤_, max}
 use native.Mathlib.Omega.{arith}
 use mathlib.Core.Path.{_≡_, sym, ap, ap₂, _∙_}
 use mathlib.Core.Bool.{cond}
@@ -11,39 +11,52 @@ use Rattle.words.specs.Sums.{Sums}
 use Rattle.words.proofs.Keep.{keep-split}
 use Rattle.words.proofs.Every.{Every}
 use Rattle.words.proofs.Bytes.{Byte}
-use Rattle.format.specs.Layout.{blockBytes, blockRecords, requestBytes, mostRules, capacity}
+use Rattle.format.specs.Layout.{blockBytes, blockRecords, requestBytes, capacity}
 use Rattle.format.specs.Block.{blocks, block}
 use Rattle.format.specs.Request.{Request}
-use Rattle.format.specs.Policy.{Policy, policyOf}
 use Rattle.format.specs.Table.{Record, hasMark, tableImage}
 use Rattle.format.specs.Place.{recordsHere}
 use Rattle.judge.specs.NewTable.{sweep}
-use Rattle.table_write.specs.Writing.{countIn, ImageOutside}
+use Rattle.places.specs.declared.masks.Each.{Each}
+use Rattle.table_write.specs.Writing.{countIn, imageBlock, ImageOutside}
 use Rattle.table_write.proofs.Places.{recordPut, length-put, records-more, block-kept}
 use Rattle.table_write.proofs.TableWritten.{image-at, image-kept}
-use Rattle.update.specs.Cleared.{clearedBy, afterBy}
-use Rattle.update.proofs.Standing.{Standing}
-use Rattle.update.proofs.Unchanged.{unchanged}
-use Rattle.update.proofs.Compaction.{sweep-none, sweep-one, length-here, length-swept}
+use Rattle.update.specs.Cleared.{clearedBy, leftBy, Compacted, afterBy}
+use Rattle.update.specs.Standing.{Holds, AllMarked}
+use Rattle.update.proofs.Standing.{same-room}
+use Rattle.update.proofs.Compaction.{sweep-none, sweep-one, length-here, length-swept, left-all}
 
--- ---- one block written
+-- ---- blocks that no record left or came to
 
--- outside the block that gets the request the table is an image still
+module _ (t : Sums) (s s′ : List ℕ) (n n′ : ℕ) (bytes : Every Byte s) (long : length s ≡ blockBytes * blocks s) (fit : n ≤ capacity (blocks s))
+    (image : s ≡ tableImage t (blocks s) (recordsHere s n)) (same : length s′ ≡ length s) where
+  kept-image : (k : ℕ) → k < blocks s → block s′ k ≡ block s k → countIn n′ k ≡ countIn n k → block s′ k ≡ imageBlock t (blocks s′) (recordsHere s′ n′) k
+  kept-image k inside eb ec =
+      image-kept t s s′ n n′ k (ap (λ (x : ℕ). x / blockBytes) same) eb ec (image-at t s n bytes long fit image k inside)
+
+  -- outside the blocks from the first that changes to the last that has a record, before or after
+  outside :
+      (from : ℕ) → from ≤ n → from ≤ n′ → ((k : ℕ) → k < from / blockRecords → block s′ k ≡ block s k)
+      → ((k : ℕ) → max n n′ ≤ blockRecords * k → block s′ k ≡ block s k)
+      → ImageOutside t s′ n′ (from / blockRecords) ((max n n′ + 14) / blockRecords)
+  outside from le le′ before behind =
+      record {
+        before = λ k b. kept-image k (omega arith) (before k b) (omega arith);
+        behind = λ k lo hi. kept-image k (omega (arith, same)) (behind k (omega arith)) (omega arith);
+      }
+
+-- outside the block that gets the request
 pub one-block :
     (t : Sums) (s s′ : List ℕ) (n : ℕ) (q : List ℕ) (m : ℕ) → Every Byte s → length s ≡ blockBytes * blocks s → n < capacity (blocks s)
     → length q ≡ requestBytes → s ≡ tableImage t (blocks s) (recordsHere s n) → s′ ≡ recordPut s n q m
     → ImageOutside t s′ (n + 1) (n / blockRecords) (n / blockRecords + 1)
 one-block t s s′ n q m bytes long inside sized image put =
     let same : length s′ ≡ length s = ap length put ∙ length-put s (blocks s) long n inside q sized m in
-    let eb : blocks s′ ≡ blocks s = ap (λ (x : ℕ). x / blockBytes) same in
-    let old = image-at t s n bytes long (omega arith) image in
-    let kept : (k : ℕ) → (k ≡ n / blockRecords → ⊥) → k < blocks s → countIn (n + 1) k ≡ countIn n k → _ =
-    λ k apart h ec. image-kept t s s′ n (n + 1) k eb
-    (ap (λ (l : List ℕ). block l k) put ∙ block-kept s (blocks s) long n inside q sized m k apart) ec (old k h) in
-    record {
-      before = λ k h. kept k (λ e. omega arith) (omega arith) (omega arith);
-      behind = λ k lo hi. kept k (λ e. omega arith) (omega (arith, same)) (omega arith);
-    }
+    let kept : (k : ℕ) → (k ≡ n / blockRecords → ⊥) → block s′ k ≡ block s k =
+    λ k apart. ap (λ (l : List ℕ). block l k) put ∙ block-kept s (blocks s) long n inside q sized m k apart in
+    let e : n / blockRecords + 1 ≡ (max n (n + 1) + 14) / blockRecords = omega arith in
+    rw e
+    (outside t s s′ n (n + 1) bytes long (omega arith) image same n (omega arith) (omega arith) (λ k b. kept k (λ z. omega arith)) (λ k b. kept k (λ z. omega arith)))
 
 pub image-recorded :
     (t : Sums) (s s′ s″ : List ℕ) (n : ℕ) (q : List ℕ) (m : ℕ) → m < 4294967296 → length s ≡ blockBytes * blocks s → n < capacity (blocks s)
@@ -56,83 +69,104 @@ image-recorded t s s′ s″ n q m small long inside sized put same e =
 
 -- ---- the records
 
-module _ (p : Policy) (q : Request) (ends : ℕ) where
-  pub after-none : (gives : ℕ) (rs : List Record) → gives ≡ 0 → afterBy p q ends gives rs ≡ sweep (map (clearedBy p q ends) rs)
+module _ (e : Each) (q : Request) (ends : ℕ) where
+  after-none : (gives : ℕ) (rs : List Record) → gives ≡ 0 → afterBy e q ends gives rs ≡ leftBy e q ends rs
   unfolding afterBy
-  after-none gives rs z = rw (sweep-none (record { request = q; marks = gives }) z) (append-nil (sweep (map (clearedBy p q ends) rs)))
+  after-none gives rs z = rw (sweep-none (record { request = q; marks = gives }) z) (append-nil (leftBy e q ends rs))
 
-  pub after-one :
+  after-one :
       (gives : ℕ) (rs : List Record) → (gives ≡ 0 → ⊥)
-      → afterBy p q ends gives rs ≡ sweep (map (clearedBy p q ends) rs) ++ (record { request = q; marks = gives } ∷ [])
+      → afterBy e q ends gives rs ≡ leftBy e q ends rs ++ (record { request = q; marks = gives } ∷ [])
   unfolding afterBy
   after-one gives rs z = rw (sweep-one (record { request = q; marks = gives }) z)
 
   -- their number
-  pub kept-few : (rs : List Record) → length (sweep (map (clearedBy p q ends) rs)) ≤ length rs
-  unfolding sweep
-  kept-few rs = omega (arith, keep-split hasMark (map (clearedBy p q ends) rs), length-map rs (clearedBy p q ends))
+  left-few : (rs : List Record) → length (leftBy e q ends rs) ≤ length rs
+  unfolding leftBy sweep
+  left-few rs = omega (arith, keep-split hasMark (map (clearedBy e q ends) rs), length-map rs (clearedBy e q ends))
 
-  pub after-count : (gives : ℕ) (rs : List Record) → (gives ≡ 0 → ⊥) → length (afterBy p q ends gives rs) ≡ length (sweep (map (clearedBy p q ends) rs)) + 1
+  pub after-count : (gives : ℕ) (rs : List Record) → (gives ≡ 0 → ⊥) → length (afterBy e q ends gives rs) ≡ length (leftBy e q ends rs) + 1
   after-count gives rs z =
-      ap length (after-one gives rs z) ∙ length-append (sweep (map (clearedBy p q ends) rs)) (record { request = q; marks = gives } ∷ [])
+      ap length (after-one gives rs z) ∙ length-append (leftBy e q ends rs) (record { request = q; marks = gives } ∷ [])
 
-  pub after-few : (gives : ℕ) (rs : List Record) → length (afterBy p q ends gives rs) ≤ length rs + cond (eqb gives 0) 0 1
+  pub after-few : (gives : ℕ) (rs : List Record) → length (afterBy e q ends gives rs) ≤ length rs + cond (eqb gives 0) 0 1
   unfolding afterBy
   after-few gives rs =
       omega (
         arith,
-        kept-few rs,
-        length-append (sweep (map (clearedBy p q ends) rs)) (sweep (record { request = q; marks = gives } ∷ [])),
+        left-few rs,
+        length-append (leftBy e q ends rs) (sweep (record { request = q; marks = gives } ∷ [])),
         length-swept (record { request = q; marks = gives }),
       )
 
-  module _ (s t₁ : List ℕ) (n held : ℕ) (front : recordsHere t₁ held ≡ sweep (map (clearedBy p q ends) (recordsHere s n))) where
-    pub length-none : (gives : ℕ) → gives ≡ 0 → held ≡ length (afterBy p q ends gives (recordsHere s n))
-    length-none gives z = sym (ap length (after-none gives (recordsHere s n) z ∙ sym front) ∙ length-here t₁ held)
+  -- ---- where a rule ends
 
-    pub length-one : (gives : ℕ) → (gives ≡ 0 → ⊥) → held + 1 ≡ length (afterBy p q ends gives (recordsHere s n))
+  module _ {s t₁ : List ℕ} {from n held : ℕ} (c : Compacted e q ends s from n t₁ held) where
+    pub length-none : (gives : ℕ) → gives ≡ 0 → held ≡ length (afterBy e q ends gives (recordsHere s n))
+    length-none gives z = sym (ap length (after-none gives (recordsHere s n) z ∙ sym (c .records)) ∙ length-here t₁ held)
+
+    pub length-one : (gives : ℕ) → (gives ≡ 0 → ⊥) → held + 1 ≡ length (afterBy e q ends gives (recordsHere s n))
     length-one gives z =
         sym
         (ap length (after-one gives (recordsHere s n) z)
-        ∙ length-append (sweep (map (clearedBy p q ends) (recordsHere s n))) (record { request = q; marks = gives } ∷ [])
-        ∙ ap (λ (x : ℕ). x + 1) (ap length (sym front) ∙ length-here t₁ held))
+        ∙ length-append (leftBy e q ends (recordsHere s n)) (record { request = q; marks = gives } ∷ [])
+        ∙ ap (λ (x : ℕ). x + 1) (ap length (sym (c .records)) ∙ length-here t₁ held))
 
-    -- every block written, without the request and with it
+    -- without the request
     pub image-none :
-        (t : Sums) (gives : ℕ) {t₂ : List ℕ} → length t₁ ≡ length s → gives ≡ 0 → t₂ ≡ tableImage t (blocks t₁) (recordsHere t₁ held)
-        → t₂ ≡ tableImage t (blocks s) (afterBy p q ends gives (recordsHere s n))
-    image-none t gives same z e =
-        e
-        ∙ ap₂ {C = List ℕ} (tableImage t) (ap (λ (x : ℕ). x / blockBytes) same) (front ∙ sym (after-none gives (recordsHere s n) z))
+        (t : Sums) (gives : ℕ) {t₂ : List ℕ} → gives ≡ 0 → t₂ ≡ tableImage t (blocks t₁) (recordsHere t₁ held)
+        → t₂ ≡ tableImage t (blocks s) (afterBy e q ends gives (recordsHere s n))
+    image-none t gives z is =
+        is
+        ∙ ap₂ {C = List ℕ} (tableImage t) (ap (λ (x : ℕ). x / blockBytes) (c .long)) (c .records ∙ sym (after-none gives (recordsHere s n) z))
 
-    pub image-one :
-        (t : Sums) (gives : ℕ) {t₂ t₃ : List ℕ} → length t₁ ≡ length s → (gives ≡ 0 → ⊥) → gives < 4294967296
-        → length s ≡ blockBytes * blocks s → held < capacity (blocks s) → length q ≡ requestBytes
-        → t₂ ≡ recordPut t₁ held q gives → length t₂ ≡ length t₁ → t₃ ≡ tableImage t (blocks t₂) (recordsHere t₂ (held + 1))
-        → t₃ ≡ tableImage t (blocks s) (afterBy p q ends gives (recordsHere s n))
-    image-one t gives same z small long inside sized put same₂ e =
-        e
-        ∙ ap₂ {C = List ℕ} (tableImage t) (ap (λ (x : ℕ). x / blockBytes) (same₂ ∙ same))
-        (ap (λ (l : List ℕ). recordsHere l (held + 1)) put
-        ∙ records-more t₁ (blocks s) (same ∙ long) held inside q sized gives small
-        ∙ ap (λ (rs : List Record). rs ++ (record { request = q; marks = gives } ∷ [])) front
-        ∙ sym (after-one gives (recordsHere s n) z))
+    module _ (t : Sums) (bytes : Every Byte s) (h : Holds s n) (image : s ≡ tableImage t (blocks s) (recordsHere s n)) (le : from ≤ n) where
+      pub room-none : Holds t₁ n
+      room-none = same-room (c .long) h
+
+      pub outside-none : ImageOutside t t₁ held (from / blockRecords) ((max n held + 14) / blockRecords)
+      outside-none = outside t s t₁ n held bytes (h .long) (h .fit) image (c .long) from le (c .some) (c .before) (λ k b. c .behind k (omega arith))
+
+      -- and with it
+      module _ (gives : ℕ) {t₂ : List ℕ} (inside : held < capacity (blocks s)) (sized : length q ≡ requestBytes) (put : t₂ ≡ recordPut t₁ held q gives) where
+        same : length t₂ ≡ length s
+        same = ap length put ∙ length-put t₁ (blocks s) (c .long ∙ h .long) held inside q sized gives ∙ c .long
+
+        pub room-one : Holds t₂ n
+        room-one = same-room same h
+
+        kept : (k : ℕ) → (k ≡ held / blockRecords → ⊥) → block t₂ k ≡ block t₁ k
+        kept k a = ap (λ (l : List ℕ). block l k) put ∙ block-kept t₁ (blocks s) (c .long ∙ h .long) held inside q sized gives k a
+
+        pub outside-one : ImageOutside t t₂ (held + 1) (from / blockRecords) ((max n (held + 1) + 14) / blockRecords)
+        outside-one =
+            outside t s t₂ n (held + 1) bytes (h .long) (h .fit) image same from le (omega (arith, c .some))
+            (λ k b. kept k (λ z. omega (arith, c .some)) ∙ c .before k b) (λ k b. kept k (λ z. omega arith) ∙ c .behind k (omega arith))
+
+        pub image-one :
+            (gives ≡ 0 → ⊥) → gives < 4294967296 → {t₃ : List ℕ} → t₃ ≡ tableImage t (blocks t₂) (recordsHere t₂ (held + 1))
+            → t₃ ≡ tableImage t (blocks s) (afterBy e q ends gives (recordsHere s n))
+        image-one z small is =
+            is
+            ∙ ap₂ {C = List ℕ} (tableImage t) (ap (λ (x : ℕ). x / blockBytes) same)
+            (ap (λ (l : List ℕ). recordsHere l (held + 1)) put
+            ∙ records-more t₁ (blocks s) (c .long ∙ h .long) held inside q sized gives small
+            ∙ ap (λ (rs : List Record). rs ++ (record { request = q; marks = gives } ∷ [])) (c .records)
+            ∙ sym (after-one gives (recordsHere s n) z))
 
 -- ---- where no rule ends
 
-module _ {policy : List ℕ} {t : Sums} {s : List ℕ} {n : ℕ} (st : Standing policy t s n) (few : policyOf policy .rules ≤ mostRules) (q : Request)
-    (ends gives : ℕ) (z : ends ≡ 0) where
-  front-stays : sweep (map (clearedBy (policyOf policy) q ends) (recordsHere s n)) ≡ recordsHere s n
-  front-stays = rw z (unchanged (policyOf policy) few q (st .good) (st .whole))
+module _ (s : List ℕ) (n : ℕ) (marked : AllMarked s n) (e : Each) (q : Request) (ends gives : ℕ) (z : ends ≡ 0) where
+  front-stays : leftBy e q ends (recordsHere s n) ≡ recordsHere s n
+  front-stays = rw z (left-all e q (recordsHere s n) marked)
 
-  pub stay-none : gives ≡ 0 → afterBy (policyOf policy) q ends gives (recordsHere s n) ≡ recordsHere s n
-  stay-none e = after-none (policyOf policy) q ends gives (recordsHere s n) e ∙ front-stays
+  pub stay-none : gives ≡ 0 → afterBy e q ends gives (recordsHere s n) ≡ recordsHere s n
+  stay-none w = after-none e q ends gives (recordsHere s n) w ∙ front-stays
 
-  pub stay-one :
-      (gives ≡ 0 → ⊥) → afterBy (policyOf policy) q ends gives (recordsHere s n) ≡ recordsHere s n ++ (record { request = q; marks = gives } ∷ [])
-  stay-one e =
-      after-one (policyOf policy) q ends gives (recordsHere s n) e
+  pub stay-one : (gives ≡ 0 → ⊥) → afterBy e q ends gives (recordsHere s n) ≡ recordsHere s n ++ (record { request = q; marks = gives } ∷ [])
+  stay-one w =
+      after-one e q ends gives (recordsHere s n) w
       ∙ ap (λ (rs : List Record). rs ++ (record { request = q; marks = gives } ∷ [])) front-stays
 
-  pub stay-length : (gives ≡ 0 → ⊥) → n + 1 ≡ length (afterBy (policyOf policy) q ends gives (recordsHere s n))
-  stay-length e = length-one (policyOf policy) q ends s s n n (sym front-stays) gives e
+  pub stay-length : (gives ≡ 0 → ⊥) → n + 1 ≡ length (afterBy e q ends gives (recordsHere s n))
+  stay-length w = sym (after-count e q ends gives (recordsHere s n) w ∙ ap (λ (rs : List Record). length rs + 1) front-stays ∙ ap (λ (m : ℕ). m + 1) (length-here s n))

@@ -1,35 +1,39 @@
 -- Records moved to the front: after i records those that keep a mark stand in front, and the later ones are untouched.
 -- Assumes nothing.
-use Prim.Native.Nat.{ℕ, _+_, _*_, _<_, _≤_}
+use Prim.Native.Nat.{ℕ, _+_, _-_, _*_, _<_, _≤_}
 use native.Mathlib.Nat.{zero-add}
 use native.Mathlib.Numerals.{add-one}
 use native.Mathlib.Omega.{arith}
 use mathlib.Core.Path.{_≡_, refl, sym, ap, ap₂, _∙_}
-use mathlib.Core.Bool.{Bool, true, false, cond, not}
+use mathlib.Core.Bool.{Bool, true, false, cond, not, false≢true}
 use mathlib.Core.List.{List, [], _∷_, _++_, map, append-nil}
+use lib.Bits.{and-zero-r, bitAnd}
 use lib.ListN.{length}
 use lib.Dec.{eqb}
-use borrow.Author.Tests.{eq-eqb, ne-eqb}
+use borrow.Author.Tests.{eq-eqb, ne-eqb, eqb-true}
 use Rattle.words.specs.Lists.{tab, keep}
 use Rattle.words.proofs.Keep.{keep-append, map-append}
 use Rattle.words.proofs.Lists.{length-tab}
+use Rattle.words.proofs.Tests.{both-first, both-second}
 use Rattle.format.specs.Layout.{blockBytes, capacity}
 use Rattle.format.specs.Request.{Request}
-use Rattle.format.specs.Policy.{Policy}
+use Rattle.format.specs.Block.{block}
 use Rattle.format.specs.Table.{Record, hasMark}
 use Rattle.format.specs.Place.{recordHere, recordsHere}
 use Rattle.judge.specs.NewTable.{sweep}
+use Rattle.places.specs.declared.masks.Each.{Each}
+use Rattle.places.specs.Masks.{apartBy}
 use Rattle.table_write.proofs.Parts.{tab-more}
-use Rattle.table_write.proofs.Places.{recordPut, length-request, here-kept, records-more}
-use Rattle.update.specs.Cleared.{clearedBy, Settled}
+use Rattle.table_write.proofs.Places.{recordPut, length-request, here-kept, records-more, block-kept}
+use Rattle.update.specs.Cleared.{keptMarks, clearedBy, keepsAll, leftBy, Settled, Compacted}
 
 -- ---- lists of records
 
-pub records-none : (s : List ℕ) → recordsHere s 0 ≡ []
+records-none : (s : List ℕ) → recordsHere s 0 ≡ []
 unfolding recordsHere tab
 records-none s = refl
 
-pub records-one : (s : List ℕ) (n : ℕ) → recordsHere s (n + 1) ≡ recordsHere s n ++ (recordHere s n ∷ [])
+records-one : (s : List ℕ) (n : ℕ) → recordsHere s (n + 1) ≡ recordsHere s n ++ (recordHere s n ∷ [])
 unfolding recordsHere
 records-one s n = rw (add-one n, tab-more (recordHere s) 0 n, zero-add)
 
@@ -54,70 +58,138 @@ length-swept r = go (eqb (r .marks) 0)
     go true = refl
     go false = refl
 
-pub sweep-append : (rs ss : List Record) → sweep (rs ++ ss) ≡ sweep rs ++ sweep ss
-unfolding sweep
-sweep-append rs ss = keep-append hasMark rs ss
+module _ (e : Each) (q : Request) where
+  -- where no rule ends, records with marks stay as they are
+  same-records : (rs : List Record) → map (clearedBy e q 0) rs ≡ rs
+  unfolding clearedBy keptMarks
+  same-records [] = refl
+  same-records (r ∷ rs) =
+      ap₂ {C = List Record} (λ m xs. record { request = r .request; marks = m } ∷ xs) (go (r .marks) (bitAnd 0 (apartBy e q (r .request)))) (same-records rs)
+    where
+      go : (m a : ℕ) → m - bitAnd m (0 - a) ≡ m
+      go m a = let z : 0 - a ≡ 0 = omega arith in rw (z, and-zero-r m) (omega arith)
 
-module _ (p : Policy) (q : Request) (ends : ℕ) where
+  pub left-all : (rs : List Record) → sweep rs ≡ rs → leftBy e q 0 rs ≡ rs
+  unfolding leftBy
+  left-all rs h = rw (same-records rs) h
+
+module _ (e : Each) (q : Request) (ends : ℕ) where
+  pub left-start : (s : List ℕ) → leftBy e q ends (recordsHere s 0) ≡ []
+  unfolding leftBy sweep keep
+  left-start s = rw (records-none s)
+
   -- one record more
-  pub sweep-more :
-      (s : List ℕ) (i : ℕ)
-      → sweep (map (clearedBy p q ends) (recordsHere s (i + 1))) ≡ sweep (map (clearedBy p q ends) (recordsHere s i)) ++ sweep (clearedBy p q ends (recordHere s i) ∷ [])
-  sweep-more s i =
-      rw (records-one s i, map-append (clearedBy p q ends) (recordsHere s i) (recordHere s i ∷ []))
-      (sweep-append (map (clearedBy p q ends) (recordsHere s i)) (clearedBy p q ends (recordHere s i) ∷ []))
+  pub left-more : (s : List ℕ) (i : ℕ) → leftBy e q ends (recordsHere s (i + 1)) ≡ leftBy e q ends (recordsHere s i) ++ leftBy e q ends (recordHere s i ∷ [])
+  unfolding leftBy sweep
+  left-more s i =
+      rw (records-one s i, map-append (clearedBy e q ends) (recordsHere s i) (recordHere s i ∷ []))
+      (keep-append hasMark (map (clearedBy e q ends) (recordsHere s i)) (clearedBy e q ends (recordHere s i) ∷ []))
+
+  -- one record
+  pub left-none : (r : Record) → clearedBy e q ends r .marks ≡ 0 → leftBy e q ends (r ∷ []) ≡ []
+  unfolding leftBy
+  left-none r z = sweep-none (clearedBy e q ends r) z
+
+  pub left-one : (r : Record) → (clearedBy e q ends r .marks ≡ 0 → ⊥) → leftBy e q ends (r ∷ []) ≡ clearedBy e q ends r ∷ []
+  unfolding leftBy
+  left-one r z = sweep-one (clearedBy e q ends r) z
+
+  left-same : (r : Record) → (clearedBy e q ends r .marks ≡ 0 → ⊥) → clearedBy e q ends r .marks ≡ r .marks → leftBy e q ends (r ∷ []) ≡ r ∷ []
+  unfolding clearedBy
+  left-same r z same = left-one r z ∙ ap {B = List Record} (λ m. record { request = r .request; marks = m } ∷ []) same
+
+  -- ---- the records before the first that changes
+
+  pub stays-start : (s : List ℕ) → leftBy e q ends (recordsHere s 0) ≡ recordsHere s 0
+  stays-start s = left-start s ∙ sym (records-none s)
+
+  pub stays-more :
+      (s : List ℕ) (i : ℕ) → leftBy e q ends (recordsHere s i) ≡ recordsHere s i → keepsAll e q ends (recordHere s i) ≡ true
+      → leftBy e q ends (recordsHere s (i + 1)) ≡ recordsHere s (i + 1)
+  unfolding keepsAll
+  stays-more s i h k =
+      let r = recordHere s i in
+      let marked : hasMark r ≡ true = both-first (hasMark r) (eqb (clearedBy e q ends r .marks) (r .marks)) k in
+      let same = eqb-true (clearedBy e q ends r .marks) (r .marks) (both-second (hasMark r) (eqb (clearedBy e q ends r .marks) (r .marks)) k) in
+      left-more s i
+      ∙ ap₂ {C = List Record} (λ xs ys. xs ++ ys) h (left-same r (λ z. some (r .marks) marked (sym same ∙ z)) same)
+      ∙ sym (records-one s i)
+    where
+      some : (m : ℕ) → not (eqb m 0) ≡ true → m ≡ 0 → ⊥
+      some m t z = absurd (false≢true (sym (ap not (eq-eqb m 0 z)) ∙ t))
 
   -- ---- one record settled
 
-  pub dropped : (t : List ℕ) (i j m : ℕ) → m ≡ clearedBy p q ends (recordHere t i) .marks → m ≡ 0 → Settled p q ends t t i j j
-  dropped t i j m e z =
+  pub dropped : (t : List ℕ) (i j m : ℕ) → m ≡ clearedBy e q ends (recordHere t i) .marks → m ≡ 0 → Settled e q ends t t i j j
+  dropped t i j m is z =
       record {
-        records = rw (sweep-none (clearedBy p q ends (recordHere t i)) (sym e ∙ z)) (sym (append-nil (recordsHere t j)));
+        records = rw (left-none (recordHere t i) (sym is ∙ z)) (sym (append-nil (recordsHere t j)));
         later = λ k h. refl;
+        apart = λ k h. refl;
         few = omega arith;
+        some = omega arith;
+      }
+
+  pub stayed :
+      (t : List ℕ) (i j m : ℕ) → m ≡ clearedBy e q ends (recordHere t i) .marks → (m ≡ 0 → ⊥) → i ≡ j → recordHere t i .marks ≡ m
+      → Settled e q ends t t i j (j + 1)
+  stayed t i j m is some at same =
+      record {
+        records =
+            records-one t j
+            ∙ ap {B = List Record} (λ k. recordsHere t j ++ (recordHere t k ∷ [])) (sym at)
+            ∙ ap (λ rs. recordsHere t j ++ rs) (sym (left-same (recordHere t i) (λ z. some (is ∙ z)) (sym (same ∙ is))));
+        later = λ k h. refl;
+        apart = λ k h. refl;
+        few = omega arith;
+        some = omega arith;
       }
 
   pub moved :
-      (t t′ : List ℕ) (b i j m : ℕ) → length t ≡ blockBytes * b → j ≤ i → i < capacity b → m ≡ clearedBy p q ends (recordHere t i) .marks
-      → (m ≡ 0 → ⊥) → m < 4294967296 → t′ ≡ recordPut t j (recordHere t i .request) m → Settled p q ends t t′ i j (j + 1)
+      (t t′ : List ℕ) (b i j m : ℕ) → length t ≡ blockBytes * b → j ≤ i → i < capacity b → m ≡ clearedBy e q ends (recordHere t i) .marks
+      → (m ≡ 0 → ⊥) → m < 4294967296 → t′ ≡ recordPut t j (recordHere t i .request) m → Settled e q ends t t′ i j (j + 1)
   unfolding clearedBy
-  moved t t′ b i j m long order inside e some small put =
+  moved t t′ b i j m long order inside is some small put =
+      let sized = length-request t b long i inside in
       record {
         records =
             ap (λ (l : List ℕ). recordsHere l (j + 1)) put
-            ∙ records-more t b long j (omega arith) (recordHere t i .request) (length-request t b long i inside) m small
-            ∙ ap {B = List Record} (λ x. recordsHere t j ++ (record { request = recordHere t i .request; marks = x } ∷ [])) e
-            ∙ ap (λ rs. recordsHere t j ++ rs) (sym (sweep-one (clearedBy p q ends (recordHere t i)) (λ z. some (e ∙ z))));
-        later =
-            λ k h. ap (λ (l : List ℕ). recordHere l k) put
-            ∙ here-kept t b long j (omega arith) (recordHere t i .request) (length-request t b long i inside) m k (λ z. omega arith);
+            ∙ records-more t b long j (omega arith) (recordHere t i .request) sized m small
+            ∙ ap {B = List Record} (λ x. recordsHere t j ++ (record { request = recordHere t i .request; marks = x } ∷ [])) is
+            ∙ ap (λ rs. recordsHere t j ++ rs) (sym (left-one (recordHere t i) (λ z. some (is ∙ z))));
+        later = λ k h. ap (λ (l : List ℕ). recordHere l k) put ∙ here-kept t b long j (omega arith) (recordHere t i .request) sized m k (λ z. omega arith);
+        apart = λ k h. ap (λ (l : List ℕ). block l k) put ∙ block-kept t b long j (omega arith) (recordHere t i .request) sized m k h;
         few = omega arith;
+        some = omega arith;
       }
 
   -- ---- all records
 
-  -- table t, that was s, after i records, with j in front
-  pub record Compacted (s : List ℕ) (i : ℕ) (t : List ℕ) (j : ℕ) : Type 0 where
-    pub records : recordsHere t j ≡ sweep (map (clearedBy p q ends) (recordsHere s i))
-    pub later : (k : ℕ) → i ≤ k → recordHere t k ≡ recordHere s k
-    pub few : j ≤ i
-    pub long : length t ≡ length s
-
-  pub compact-start : (s : List ℕ) → Compacted s 0 s 0
-  unfolding sweep keep
-  compact-start s =
-      record { records = rw (records-none s); later = λ k h. refl; few = omega arith; long = refl }
+  pub compact-start : (s : List ℕ) (from : ℕ) → leftBy e q ends (recordsHere s from) ≡ recordsHere s from → Compacted e q ends s from from s from
+  compact-start s from h =
+      record {
+        records = sym h;
+        later = λ k l. refl;
+        before = λ k l. refl;
+        behind = λ k l. refl;
+        few = omega arith;
+        some = omega arith;
+        long = refl;
+      }
 
   pub compact-turn :
-      {s : List ℕ} {i : ℕ} {t : List ℕ} {j : ℕ} {t′ : List ℕ} {r : ℕ}
-      → Compacted s i t j → Settled p q ends t t′ i j r → length t′ ≡ length t → Compacted s (i + 1) t′ r
-  compact-turn {s} {i} {t} {j} {t′} {r} c d same =
+      {s : List ℕ} {from i : ℕ} {t : List ℕ} {j : ℕ} {t′ : List ℕ} {r : ℕ}
+      → Compacted e q ends s from i t j → Settled e q ends t t′ i j r → length t′ ≡ length t → Compacted e q ends s from (i + 1) t′ r
+  compact-turn {s} {from} {i} {t} {j} {t′} {r} c d same =
       record {
         records =
             d .records
-            ∙ ap₂ {C = List Record} (λ rs x. rs ++ sweep (clearedBy p q ends x ∷ [])) (c .records) (c .later i (omega arith))
-            ∙ sym (sweep-more s i);
+            ∙ ap₂ {C = List Record} (λ rs x. rs ++ leftBy e q ends (x ∷ [])) (c .records) (c .later i (omega arith))
+            ∙ sym (left-more s i);
         later = λ k h. d .later k (omega arith) ∙ c .later k (omega arith);
+        before = λ k h. d .apart k (λ z. omega (arith, c .some)) ∙ c .before k h;
+        behind = λ k h. d .apart k (λ z. omega (arith, c .few)) ∙ c .behind k (omega arith);
         few = omega (arith, c .few, d .few);
+        some = omega (arith, c .some, d .some);
         long = same ∙ c .long;
       }

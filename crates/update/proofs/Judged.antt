@@ -1,20 +1,25 @@
 -- The numbers of bits and the judge: where the bits of a number say which rules judge, clearing by bits is the judge's clearing, and the new table is
 -- the judge's.
 -- Assumes nothing.
-use Prim.Native.Nat.{ℕ, _+_, _<_}
-use mathlib.Core.Path.{_≡_, sym, ap, ap₂, _∙_}
-use mathlib.Core.Bool.{Bool, not, _&&_}
-use mathlib.Core.List.{List, [], _∷_, _++_, map}
+use Prim.Native.Nat.{ℕ, _+_, _-_, _^_, _<_}
+use native.Mathlib.Omega.{arith}
+use mathlib.Core.Path.{_≡_, refl, sym, ap, ap₂, _∙_}
+use mathlib.Core.Bool.{Bool, true, false, not, _&&_}
+use mathlib.Core.List.{List, [], _∷_, _++_}
+use lib.Bits.{bitAnd}
 use Rattle.words.specs.Bytes.{bit, bits}
-use Rattle.words.proofs.Bits.{bit-bits, bits-same}
-use Rattle.words.proofs.Every.{map-same, every-all}
+use Rattle.words.proofs.Bits.{bit-bits, bits-below, bits-same}
+use Rattle.words.proofs.BitLaws.{bit-without, same-bits}
+use Rattle.words.proofs.Every.{Every, map-same, every-weaken}
 use Rattle.format.specs.Request.{Request}
 use Rattle.format.specs.Fits.{samePlace}
 use Rattle.format.specs.Policy.{Policy}
 use Rattle.format.specs.Table.{Record, marked}
 use Rattle.judge.specs.Verdict.{isLast, judges}
 use Rattle.judge.specs.NewTable.{ends, gives, recordOf, cleared, sweep, newTable}
-use Rattle.update.specs.Cleared.{endsBy, givesBy, keepsBy, clearedBy, afterBy}
+use Rattle.places.specs.declared.masks.Each.{Each}
+use Rattle.places.specs.Masks.{apartIn, apartBy}
+use Rattle.update.specs.Cleared.{endsBy, givesBy, keptMarks, clearedBy, leftBy, afterBy}
 use Rattle.update.proofs.Masks.{bits-split}
 
 -- what ends and what is given are the rules that judge
@@ -29,19 +34,6 @@ parts-add p q f judging is =
 
 module _ (p : Policy) (q : Request) («open» : ℕ → Bool) (judging : ℕ)
     (agree : (i : ℕ) → i < p .rules → bit i judging ≡ judges (p .rule i) q («open» i)) where
-  ends-bit : (i : ℕ) → i < p .rules → bit i (bits (p .rules) (endsBy p q judging)) ≡ ends p q «open» i
-  unfolding endsBy ends
-  ends-bit i h = bit-bits (p .rules) (endsBy p q judging) i h ∙ ap (λ b. b && isLast (p .rule i) q) (agree i h)
-
-  pub cleared-same : (r : Record) → clearedBy p q (bits (p .rules) (endsBy p q judging)) r ≡ cleared p q «open» r
-  unfolding clearedBy cleared keepsBy
-  cleared-same r =
-      ap {B = Record} (λ m. record { request = r .request; marks = m })
-      (bits-same (p .rules)
-      (λ i. marked i r && not (bit i (bits (p .rules) (endsBy p q judging)) && samePlace (p .rule i) q (r .request)))
-      (λ i. marked i r && not (ends p q «open» i && samePlace (p .rule i) q (r .request)))
-      (λ i h. ap (λ b. marked i r && not (b && samePlace (p .rule i) q (r .request))) (ends-bit i h)))
-
   pub record-same : _≡_ {A = Record} (record { request = q; marks = bits (p .rules) (givesBy p q judging) }) (recordOf p q «open»)
   unfolding recordOf givesBy gives
   record-same =
@@ -49,13 +41,44 @@ module _ (p : Policy) (q : Request) («open» : ℕ → Bool) (judging : ℕ)
       (bits-same (p .rules) (λ i. bit i judging && not (isLast (p .rule i) q)) (λ i. judges (p .rule i) q («open» i) && not (isLast (p .rule i) q))
       (λ i h. ap (λ b. b && not (isLast (p .rule i) q)) (agree i h)))
 
-  pub map-cleared : (rs : List Record) → map (clearedBy p q (bits (p .rules) (endsBy p q judging))) rs ≡ map (cleared p q «open») rs
-  map-cleared rs =
-      map-same (clearedBy p q (bits (p .rules) (endsBy p q judging))) (cleared p q «open»)
-      (every-all (λ r. clearedBy p q (bits (p .rules) (endsBy p q judging)) r ≡ cleared p q «open» r) cleared-same rs)
+  -- the rules that end, as bits
+  ending : ℕ
+  ending = bits (p .rules) (endsBy p q judging)
+
+  ends-bit : (i : ℕ) → i < p .rules → bit i ending ≡ ends p q «open» i
+  unfolding ending endsBy ends
+  ends-bit i h = bit-bits (p .rules) (endsBy p q judging) i h ∙ ap (λ b. b && isLast (p .rule i) q) (agree i h)
+
+  -- a number of marks that has no bit above the rules
+  module _ (e : Each) (apart : (x : Request) → apartBy e q x ≡ apartIn p q x) (r : Record) (below : r .marks < 2 ^ p .rules) where
+    keeps : ℕ → Bool
+    keeps i = marked i r && not (ends p q «open» i && samePlace (p .rule i) q (r .request))
+
+    kept-bit : (i : ℕ) → i < p .rules → bit i (keptMarks e q ending (r .request) (r .marks)) ≡ keeps i
+    unfolding keptMarks apartIn keeps
+    kept-bit i h =
+        bit-without i (r .marks) (ending - bitAnd ending (apartBy e q (r .request)))
+        ∙ ap (λ b. marked i r && not b)
+        (bit-without i ending (apartBy e q (r .request))
+        ∙ ap₂ {C = Bool} (λ b c. b && not c) (ends-bit i h)
+        (ap (bit i) (apart (r .request)) ∙ bit-bits (p .rules) (λ j. not (samePlace (p .rule j) q (r .request))) i h)
+        ∙ ap (λ b. ends p q «open» i && b) (twice (samePlace (p .rule i) q (r .request))))
+      where
+        twice : (b : Bool) → not (not b) ≡ b
+        twice true = refl
+        twice false = refl
+
+    cleared-same : clearedBy e q ending r ≡ cleared p q «open» r
+    unfolding clearedBy keptMarks cleared keeps
+    cleared-same =
+        ap {B = Record} (λ m. record { request = r .request; marks = m })
+        (same-bits (p .rules) (keptMarks e q ending (r .request) (r .marks)) (bits (p .rules) keeps) (omega (arith, below)) (bits-below (p .rules) keeps)
+        (λ i h. kept-bit i h ∙ sym (bit-bits (p .rules) keeps i h)))
 
   pub after-same :
-      (rs : List Record)
-      → afterBy p q (bits (p .rules) (endsBy p q judging)) (bits (p .rules) (givesBy p q judging)) rs ≡ newTable p q «open» rs
-  unfolding afterBy newTable
-  after-same rs = ap₂ {C = List Record} (λ xs r. sweep xs ++ sweep (r ∷ [])) (map-cleared rs) record-same
+      (e : Each) → ((x : Request) → apartBy e q x ≡ apartIn p q x) → {rs : List Record} → Every (λ r. r .marks < 2 ^ p .rules) rs
+      → afterBy e q (bits (p .rules) (endsBy p q judging)) (bits (p .rules) (givesBy p q judging)) rs ≡ newTable p q «open» rs
+  unfolding afterBy leftBy newTable ending
+  after-same e apart below =
+      ap₂ {C = List Record} (λ xs r. sweep xs ++ sweep (r ∷ []))
+      (map-same (clearedBy e q ending) (cleared p q «open») (every-weaken (λ r b. cleared-same e apart r b) below)) record-same

@@ -2,7 +2,7 @@ pub mod Policies
 pub mod Masks
 pub mod Compaction
 pub mod Standing
-pub mod Unchanged
+pub mod Marks
 pub mod AfterLaws
 pub mod Judged
 pub mod Outcomes

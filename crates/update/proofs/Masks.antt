@@ -1,27 +1,13 @@
--- Numbers of bits that a loop adds up.
+-- Numbers of bits: parted by a test, and with the bits of another taken off.
 -- Assumes nothing.
-use Prim.Native.Nat.{ℕ, zero, suc, _+_, _^_, _<_, _≤_}
-use native.Mathlib.Numerals.{add-one}
+use Prim.Native.Nat.{ℕ, zero, suc, _+_, _-_, _^_, _<_}
 use native.Mathlib.Omega.{arith}
-use mathlib.Core.Path.{_≡_, refl, sym}
+use mathlib.Core.Path.{_≡_, refl, sym, ap, _∙_}
 use mathlib.Core.Bool.{Bool, true, false, cond, not, _&&_, false≢true}
-use lib.Pow.{pow-mono}
+use lib.Bits.{bitAnd, and-le-l}
 use Rattle.words.specs.Bytes.{bit, bits}
-use Rattle.words.proofs.Bits.{bits-below}
-
-pub bits-none : (f : ℕ → Bool) → bits 0 f ≡ 0
-unfolding bits
-bits-none f = refl
-
--- one more bit
-pub bits-more :
-    (i : ℕ) (f : ℕ → Bool) {x m : ℕ} {b : Bool} → x ≡ bits i f → b ≡ f i → m ≡ cond b (2 ^ i) 0 → x + m ≡ bits (i + 1) f
-unfolding bits
-bits-more i f e b d = rw (add-one i, e, d, b)
-
--- so many bits make a number of 32 bits
-pub bits-fit : (n : ℕ) (f : ℕ → Bool) → n ≤ 32 → bits n f < 4294967296
-bits-fit n f h = omega (arith, bits-below n f, pow-mono {i = n} {j = 32} h)
+use Rattle.words.proofs.Bits.{bit-none}
+use Rattle.words.proofs.BitLaws.{bit-and, bit-without, same-bits}
 
 -- what two tests part, they add up to
 pub bits-split : (n : ℕ) (f g : ℕ → Bool) → bits n (λ i. f i && g i) + bits n (λ i. f i && not (g i)) ≡ bits n f
@@ -36,6 +22,23 @@ bits-split (suc n) f g = go (bits-split n f g) (f n) (g n)
     go h true true = omega arith
     go h true false = omega arith
     go h false b = omega arith
+
+-- a number has none of the bits that end, so none is taken off
+pub none-taken : (m ends a : ℕ) → m < 4294967296 → bitAnd m ends ≡ 0 → m - bitAnd m (ends - bitAnd ends a) ≡ m
+none-taken m ends a small z = rw none (omega arith)
+  where
+    off : (x y w : Bool) → x && y ≡ false → x && (y && not w) ≡ false
+    off true true w e = absurd (false≢true (sym e))
+    off true false w e = refl
+    off false y w e = refl
+
+    none : bitAnd m (ends - bitAnd ends a) ≡ 0
+    none =
+        same-bits 32 (bitAnd m (ends - bitAnd ends a)) 0 (omega (arith, and-le-l m (ends - bitAnd ends a))) (omega arith)
+        (λ i h. bit-and i m (ends - bitAnd ends a)
+        ∙ ap (λ b. bit i m && b) (bit-without i ends a)
+        ∙ off (bit i m) (bit i ends) (bit i a) (sym (bit-and i m ends) ∙ ap (bit i) z ∙ bit-none i)
+        ∙ sym (bit-none i))
 
 -- two tests, the second made only where the first passes
 pub first-fails : {x b : Bool} (y : Bool) → x ≡ b → not x ≡ true → false ≡ b && y

@@ -1,32 +1,45 @@
 -- An accepted table is the image of the n records that stand in it, and they are those that it says.
 -- Assumes nothing.
-use Prim.Native.Nat.{ℕ, _*_, _≤_}
+use Prim.Native.Nat.{ℕ}
 use native.Mathlib.Omega.{arith}
-use mathlib.Core.Path.{_≡_, sym, ap, ap₂, _∙_}
-use mathlib.Core.Bool.{true}
+use mathlib.Core.Path.{_≡_, refl, sym, ap, ap₂, _∙_}
+use mathlib.Core.Bool.{true, _&&_}
 use mathlib.Core.List.{List}
 use lib.ListN.{length}
+use Rattle.words.specs.Lists.{keep}
 use Rattle.words.specs.Sums.{Sums}
-use Rattle.words.proofs.Every.{Every}
+use Rattle.words.proofs.Every.{Every, empty, more}
 use Rattle.words.proofs.Bytes.{Byte}
-use Rattle.format.specs.Layout.{blockBytes, tableBlocks, capacity}
+use Rattle.words.proofs.Tests.{both-second}
 use Rattle.format.specs.Block.{blocks}
-use Rattle.format.specs.Policy.{policyOf, stamp}
-use Rattle.format.specs.Table.{goodRecord, recordsOf, tableImage}
+use Rattle.format.specs.Request.{goodRequest}
+use Rattle.format.specs.Policy.{Policy, policyOf, stamp}
+use Rattle.format.specs.Table.{Record, hasMark, goodMarks, goodRecord, recordsOf, tableImage}
 use Rattle.format.specs.Place.{recordsHere}
 use Rattle.format.proofs.RecordImage.{Whole}
 use Rattle.format.proofs.Accepted.{accepted-length, accepted-image, accepted-records}
+use Rattle.judge.specs.NewTable.{sweep}
 use Rattle.table_write.proofs.Places.{image-here}
-use Rattle.update.specs.Standing.{Stands}
+use Rattle.update.specs.Standing.{Stands, Holds, AllMarked}
 
 pub record Standing (policy : List ℕ) (t : Sums) (s : List ℕ) (n : ℕ) : Type 0 where
   pub image : s ≡ tableImage t (blocks s) (recordsHere s n)
   pub here : recordsHere s n ≡ recordsOf s
   pub good : Every (λ r. goodRecord (policyOf policy) r ≡ true) (recordsHere s n)
   pub whole : Every Whole (recordsHere s n)
-  pub long : length s ≡ blockBytes * blocks s
-  pub few : blocks s ≤ tableBlocks
-  pub fit : n ≤ capacity (blocks s)
+  pub holds : Holds s n
+  pub marked : AllMarked s n
+
+-- a table of the same length has the same room
+pub same-room : {s t : List ℕ} {n : ℕ} → length t ≡ length s → Holds s n → Holds t n
+same-room e h =
+    record { long = omega (arith, e, h .long); few = omega (arith, e, h .few); fit = omega (arith, e, h .fit) }
+
+-- good records have marks
+swept : (p : Policy) {rs : List Record} → Every (λ r. goodRecord p r ≡ true) rs → sweep rs ≡ rs
+unfolding sweep keep goodRecord
+swept p empty = refl
+swept p (more {x = r} h t) = rw (both-second (goodRequest (r .request) && goodMarks p r) (hasMark r) h, swept p t)
 
 pub standing : {policy : List ℕ} {t : Sums} {s : List ℕ} {n : ℕ} → Every Byte s → Stands policy t s n → Standing policy t s n
 standing {policy} {t} {s} {n} bytes st =
@@ -43,7 +56,6 @@ standing {policy} {t} {s} {n} bytes st =
       here = here;
       good = rw here (f .good);
       whole = rw here (f .whole);
-      long = l .whole-blocks;
-      few = l .not-over;
-      fit = omega (arith, st .held-are, f .fit);
+      holds = record { long = l .whole-blocks; few = l .not-over; fit = omega (arith, st .held-are, f .fit) };
+      marked = rw here (swept (policyOf policy) (f .good));
     }

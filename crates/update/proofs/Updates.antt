@@ -1,6 +1,6 @@
 -- Steps 4 and 5 as the code takes them: the bits that it makes of the judging rules, the table that it leaves, and its answer.
 -- Assumes nothing.
-use Prim.Native.Nat.{ℕ, _+_, _-_, _*_, _≤_, _<_}
+use Prim.Native.Nat.{ℕ, _+_, _-_, _*_, _^_, _≤_, _<_}
 use native.Mathlib.Omega.{arith}
 use mathlib.Core.Path.{_≡_, sym, ap, ap₂, _∙_}
 use mathlib.Core.Bool.{Bool, true, false, cond, not}
@@ -11,18 +11,24 @@ use borrow.Author.Tests.{not-true, not-false, leb-true}
 use Rattle.words.specs.Bytes.{bit, bits}
 use Rattle.words.specs.Sums.{Sums}
 use Rattle.words.proofs.Bits.{bit-bits}
+use Rattle.words.proofs.Every.{Every, every-both, every-weaken}
 use Rattle.format.specs.Answer.{Answer, grant, refuse, refusal, Outcome}
 use Rattle.format.specs.Layout.{capacity}
 use Rattle.format.specs.Block.{blocks}
 use Rattle.format.specs.Policy.{policyOf, stamp}
-use Rattle.format.specs.Table.{Record, recordsOf, tableImage}
+use Rattle.format.specs.Table.{Record, goodRecord, recordsOf, tableImage}
 use Rattle.format.specs.Place.{recordsHere}
+use Rattle.format.proofs.RecordImage.{Whole}
 use Rattle.judge.specs.Verdict.{judges}
 use Rattle.judge.specs.NewTable.{openIn, recordOf, sweep, tableAfter}
+use Rattle.places.specs.declared.masks.Each.{Each}
+use Rattle.places.specs.Masks.{EachOf}
+use Rattle.places.proofs.Apart.{apart-is}
 use Rattle.update.specs.Cleared.{Given, endsBy, givesBy, afterBy}
 use Rattle.update.specs.Updating.{judgingOf, updateOf}
-use Rattle.update.proofs.Policies.{rules-of}
+use Rattle.update.proofs.Policies.{rules-of, few-of}
 use Rattle.update.proofs.Standing.{Standing}
+use Rattle.update.proofs.Marks.{marks-below}
 use Rattle.update.proofs.Compaction.{length-here, length-swept}
 use Rattle.update.proofs.AfterLaws.{after-few}
 use Rattle.update.proofs.Judged.{parts-add, record-same, after-same}
@@ -50,46 +56,53 @@ module _ {policy : List ℕ} {rules : ℕ} {q : List ℕ} {t : Sums} {s : List �
   gives-are : judging - ends ≡ bits (policyOf policy .rules) (givesBy (policyOf policy) q judging)
   gives-are = omega (arith, sum)
 
-  pub after-is : afterBy (policyOf policy) q ends (judging - ends) (recordsHere s n) ≡ tableAfter (policyOf policy) (recordsOf s) q
-  unfolding tableAfter
-  after-is =
-      ap₂ {C = List Record} (λ e m. afterBy (policyOf policy) q e m (recordsHere s n)) ends-are gives-are
-      ∙ ap
-      (afterBy (policyOf policy) q (bits (policyOf policy .rules) (endsBy (policyOf policy) q judging))
-      (bits (policyOf policy .rules) (givesBy (policyOf policy) q judging)))
-      (st .here)
-      ∙ after-same (policyOf policy) q (openIn (policyOf policy) (recordsOf s) q) judging agree (recordsOf s)
-
   recorded-is : cond (eqb (judging - ends) 0) 0 1 ≡ length (sweep (recordOf (policyOf policy) q (openIn (policyOf policy) (recordsOf s) q) ∷ []))
   recorded-is =
       ap (λ (m : ℕ). cond (eqb m 0) 0 1) gives-are
       ∙ sym (length-swept (record { request = q; marks = bits (policyOf policy .rules) (givesBy (policyOf policy) q judging) }))
       ∙ ap (λ (r : Record). length (sweep (r ∷ []))) (record-same (policyOf policy) q (openIn (policyOf policy) (recordsOf s) q) judging agree)
 
-  pub held-few : {held : ℕ} → held ≡ length (afterBy (policyOf policy) q ends (judging - ends) (recordsHere s n))
-      → held ≤ n + cond (eqb (judging - ends) 0) 0 1
-  held-few e = omega (arith, after-few (policyOf policy) q ends (judging - ends) (recordsHere s n), length-here s n)
+  -- the masks that the code makes of the policy
+  module _ {e : Each} (masks : EachOf (policyOf policy) e) where
+    below : Every (λ r. r .marks < 2 ^ policyOf policy .rules) (recordsOf s)
+    below =
+        rw (← st .here)
+        (every-weaken (λ r h. marks-below (policyOf policy) (few-of g) r (h .0) (h .1 .marks-fit))
+        (every-both (λ r. goodRecord (policyOf policy) r ≡ true) Whole (st .good) (st .whole)))
 
-  module _ {r : Bool} (room : r ≡ leb (length (afterBy (policyOf policy) q ends (judging - ends) (recordsHere s n))) (15 * blocks s)) where
-    room-is : r ≡ leb (length (tableAfter (policyOf policy) (recordsOf s) q)) (capacity (blocks s))
-    room-is = room ∙ ap (λ rs. leb (length rs) (15 * blocks s)) after-is
-
-    pub no-room : not r ≡ true → _≡_ {A = Outcome (List ℕ)} (record { answer = refuse (refusal 34 0 0); state = s }) (updateOf policy s q)
-    no-room e = full policy s q (sym room-is ∙ not-true r e)
-
-    pub room-fits : not r ≡ false → length (afterBy (policyOf policy) q ends (judging - ends) (recordsHere s n)) ≤ 15 * blocks s
-    room-fits e = leb-true _ _ (sym room ∙ not-false r e)
-
-    pub granted-is :
-        not r ≡ false → t ≡ stamp policy → {s′ : List ℕ} {held : ℕ} {x : Answer}
-        → s′ ≡ tableImage t (blocks s) (afterBy (policyOf policy) q ends (judging - ends) (recordsHere s n))
-        → held ≡ length (afterBy (policyOf policy) q ends (judging - ends) (recordsHere s n))
-        → x ≡ grant (cond (eqb (judging - ends) 0) 0 1) (n + cond (eqb (judging - ends) 0) 0 1 - held) held
-        → _≡_ {A = Outcome (List ℕ)} (record { answer = x; state = s′ }) (updateOf policy s q)
+    after-is : afterBy e q ends (judging - ends) (recordsHere s n) ≡ tableAfter (policyOf policy) (recordsOf s) q
     unfolding tableAfter
-    granted-is e stamped {s′} {held} {x} es′ eh ex =
-        fits-in policy s q x s′ (sym room-is ∙ not-false r e)
-        (ex
-        ∙ grant-numbers (policyOf policy) q (openIn (policyOf policy) (recordsOf s) q) (recordsOf s) n _ held
-        (sym (length-here s n) ∙ ap length (st .here)) recorded-is (eh ∙ ap length after-is))
-        (es′ ∙ ap₂ {C = List ℕ} (λ y rs. tableImage y (blocks s) rs) stamped after-is)
+    after-is =
+        ap₂ {C = List Record} (λ x m. afterBy e q x m (recordsHere s n)) ends-are gives-are
+        ∙ ap
+        (afterBy e q (bits (policyOf policy .rules) (endsBy (policyOf policy) q judging))
+        (bits (policyOf policy .rules) (givesBy (policyOf policy) q judging)))
+        (st .here)
+        ∙ after-same (policyOf policy) q (openIn (policyOf policy) (recordsOf s) q) judging agree e (apart-is policy (g .accepted) e masks q) below
+
+    pub held-few : {held : ℕ} → held ≡ length (afterBy e q ends (judging - ends) (recordsHere s n)) → held ≤ n + cond (eqb (judging - ends) 0) 0 1
+    held-few is = omega (arith, after-few e q ends (judging - ends) (recordsHere s n), length-here s n)
+
+    module _ {r : Bool} (room : r ≡ leb (length (afterBy e q ends (judging - ends) (recordsHere s n))) (15 * blocks s)) where
+      room-is : r ≡ leb (length (tableAfter (policyOf policy) (recordsOf s) q)) (capacity (blocks s))
+      room-is = room ∙ ap (λ rs. leb (length rs) (15 * blocks s)) after-is
+
+      pub no-room : not r ≡ true → _≡_ {A = Outcome (List ℕ)} (record { answer = refuse (refusal 34 0 0); state = s }) (updateOf policy s q)
+      no-room is = full policy s q (sym room-is ∙ not-true r is)
+
+      pub room-fits : not r ≡ false → length (afterBy e q ends (judging - ends) (recordsHere s n)) ≤ 15 * blocks s
+      room-fits is = leb-true _ _ (sym room ∙ not-false r is)
+
+      pub granted-is :
+          not r ≡ false → t ≡ stamp policy → {s′ : List ℕ} {held : ℕ} {x : Answer}
+          → s′ ≡ tableImage t (blocks s) (afterBy e q ends (judging - ends) (recordsHere s n))
+          → held ≡ length (afterBy e q ends (judging - ends) (recordsHere s n))
+          → x ≡ grant (cond (eqb (judging - ends) 0) 0 1) (n + cond (eqb (judging - ends) 0) 0 1 - held) held
+          → _≡_ {A = Outcome (List ℕ)} (record { answer = x; state = s′ }) (updateOf policy s q)
+      unfolding tableAfter
+      granted-is is stamped {s′} {held} {x} es′ eh ex =
+          fits-in policy s q x s′ (sym room-is ∙ not-false r is)
+          (ex
+          ∙ grant-numbers (policyOf policy) q (openIn (policyOf policy) (recordsOf s) q) (recordsOf s) n _ held
+          (sym (length-here s n) ∙ ap length (st .here)) recorded-is (eh ∙ ap length after-is))
+          (es′ ∙ ap₂ {C = List ℕ} (λ y rs. tableImage y (blocks s) rs) stamped after-is)

@@ -12,6 +12,7 @@ ghost use Rattle.update.specs.Updating.{answerOf, judgingOf, updateOf};
 use crate::clearing::ending;
 use crate::room::has_room;
 use crate::table_after::write_after;
+use places::masks::each_of;
 use words::sum::Sum;
 
 // A grant's numbers: 1 if the request is recorded, the records gone, the records held.
@@ -63,9 +64,10 @@ pub fn update(
 {
     let ends = ending(policy, rules, q, judging);
     let gives = judging - ends;
-    if !has_room(policy, rules, q, table, n, ends, gives) {
+    let each = each_of(policy, rules);
+    if !has_room(each, q, table, n, ends, gives) {
         return Updated::Full;
     }
-    let held = write_after(policy, rules, stamp, q, table, n, ends, gives);
+    let held = write_after(each, stamp, q, table, n, ends, gives);
     granted(n, gives, held)
 }

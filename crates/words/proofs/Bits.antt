@@ -23,7 +23,7 @@ bits-below (suc n) f = go (bits-below n f) (f n)
     go h false = omega (arith, pow-pos n)
 
 -- the lowest bit apart
-bits-shift : (n : ℕ) (f : ℕ → Bool) → bits (suc n) f ≡ bits n (λ i. f (suc i)) * 2 + cond (f 0) 1 0
+pub bits-shift : (n : ℕ) (f : ℕ → Bool) → bits (suc n) f ≡ bits n (λ i. f (suc i)) * 2 + cond (f 0) 1 0
 unfolding bits
 bits-shift zero f = go (f 0)
   where
@@ -55,7 +55,7 @@ bit-suc i x b = ap (λ (y : ℕ). eqb (y % 2) 1) (go (x * 2 + cond b 1 0) (half 
     go : (y : ℕ) → y / 2 ≡ x → y / 2 ^ suc i ≡ x / 2 ^ i
     go y e = ap (λ (k : ℕ). y / 2 ^ k) (sym (one-add i)) ∙ sym (shr-shr y 1 i) ∙ ap (λ (z : ℕ). z / 2 ^ i) e
 
-bit-none : (i : ℕ) → bit i 0 ≡ false
+pub bit-none : (i : ℕ) → bit i 0 ≡ false
 unfolding bit
 bit-none i = ne-eqb (0 / 2 ^ i % 2) 1 (λ e. omega (arith, shr-le 0 i))
 

@@ -12,5 +12,6 @@ pub mod Parts
 pub mod Zeros
 pub mod Bits
 pub mod Fours
+pub mod BitLaws
 pub mod Halves
 pub mod Sums

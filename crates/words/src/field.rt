@@ -1,6 +1,7 @@
 // Numbers in bytes: little-endian fields of 2 and 4 bytes, read and written, and bytes that must be zero.
 ghost use mathlib.Core.Path.{_≡_};
-ghost use Prim.Native.Nat.{_+_, _<_, _≤_};
+ghost use mathlib.Core.Bool.{cond};
+ghost use Prim.Native.Nat.{_+_, _^_, _<_, _≤_};
 ghost use mathlib.Core.List.{_++_};
 ghost use lib.ListN.{length, take, drop};
 ghost use lib.Seq.{sets};
@@ -67,4 +68,12 @@ pub fn bit(x: u32, i: u32) -> bool
     ensures { λ r. ⌜ r ≡ bitOf i x ⌝ }
 {
     (x >> i) % 2 == 1
+}
+
+// The number with bit i alone, if it is to be set.
+pub fn flag(set: bool, i: u32) -> u32
+    requires { ⌜ i < 32 ⌝ }
+    ensures { λ r. ⌜ r ≡ cond set (2 ^ i) 0 ⌝ }
+{
+    if set { 1 << i } else { 0 }
 }

@@ -1,86 +1,49 @@
--- `crate::clearing::cleared_marks` meets its contract: the marks of the rules that were looked at are kept or cleared.
+-- `crate::clearing::cleared_marks` meets its contract: what the run places say matters only where a mark may go.
 -- Assumes nothing.
-use Prim.Native.Nat.{_+_, _-_, _≤_}
-use native.Mathlib.Omega.{arith}
-use mathlib.Core.Path.{_≡_, sym, ap, _∙_}
-use Rattle.words.specs.Bytes.{bits}
-use Rattle.format.specs.Policy.{policyOf}
-use Rattle.format.specs.Place.{recordFrom}
-use Rattle.update.specs.Cleared.{keepsBy, clearedBy}
-use Rattle.update.proofs.Policies.{few-rules, rules-of}
-use Rattle.update.proofs.Masks.{bits-none, bits-more, bits-fit}
+use Prim.Native.Nat.{ℕ, _-_}
+use mathlib.Core.Path.{sym, ap, ap₂, _∙_}
+use lib.Bits.{bitAnd}
+use Rattle.words.specs.Bytes.{part}
+use Rattle.places.specs.Masks.{apartBy}
+use Rattle.update.specs.Cleared.{keptMarks, clearedBy}
+use Rattle.update.proofs.Masks.{none-taken}
 use borrow.Author.Needs.{needs}
 use Rattle.update.proofs.clearing.cleared_marks.Statement.{statement}
 use Rattle.update.proofs.clearing.cleared_marks.Tie as tie
 
-abbrev Inv-loop : tie.InvT-loop
-Inv-loop policy rules q table at ends marks kept₀ i₀ kept i = (i ≤ rules) × (kept ≡ bits i (keepsBy (policyOf policy) q ends (recordFrom table at)))
-
-abbrev μ-loop : tie.MeasureT-loop
-μ-loop policy rules q table at ends marks kept₀ i₀ kept i = rules - i
-
-add-u32-at : tie.Need-add-u32-at Inv-loop μ-loop
+add-u32-at : tie.Need-add-u32-at
 add-u32-at c = search needs
 
-u32-at-requires : tie.Need-u32-at-requires Inv-loop μ-loop
+u32-at-requires : tie.Need-u32-at-requires
 u32-at-requires c κs = search needs
 
-loop-holds : tie.Need-loop-holds Inv-loop μ-loop
-loop-holds c = (omega arith, sym (bits-none _))
-
-keeps-mark-requires : tie.Need-keeps-mark-requires Inv-loop μ-loop
-keeps-mark-requires c κs =
-    let u = c .before .before in
-    let s = u .before .before .before .before in
-    (s .pre .0, ((omega arith, s .pre .1), u .u32-at .ensures))
-
-flag-requires : tie.Need-flag-requires Inv-loop μ-loop
-flag-requires c κs = omega (arith, few-rules (c .before .before .before .before .before .before .before .pre .0))
-
-set : (c : tie.After-flag Inv-loop μ-loop) → let l = c .before .before .before .loop in let a = c .before .before .before .before .before .before .before .before .args in
-    l .kept + c .flag .result ≡ bits (l .i + 1) (keepsBy (policyOf (a .policy .now)) (a .q .now) (a .ends) (recordFrom (a .table .now) (a .at)))
-set c = bits-more _ _ (c .before .before .before .loop .inv .1) (c .before .keeps-mark .ensures) (c .flag .ensures)
-
-add-kept : tie.Need-add-kept Inv-loop μ-loop
-add-kept c =
-    let s = c .before .before .before .before .before .before .before .before in
-    let a = s .args in
-    let i = c .before .before .before .loop .i in
-    let m : i + 1 ≤ 32 = omega (arith, few-rules (s .pre .0)) in
-    omega (arith, set c, bits-fit (i + 1) (keepsBy (policyOf (a .policy .now)) (a .q .now) (a .ends) (recordFrom (a .table .now) (a .at))) m)
-
-add-i : tie.Need-add-i Inv-loop μ-loop
-add-i c = search needs
-
-loop-less : tie.Need-loop-less Inv-loop μ-loop
-loop-less c = search needs
-
-loop-again : tie.Need-loop-again Inv-loop μ-loop
-loop-again c = (omega arith, set c)
-
-returns : tie.Need-returns Inv-loop μ-loop
-unfolding clearedBy
+returns : tie.Need-returns
+unfolding clearedBy keptMarks
 returns c =
-    let s = c .before .before .before .before .before .before in
-    let e : c .before .loop .i ≡ s .args .rules = omega arith in
-    let a = s .args in
-    c .before .loop .inv .1
-    ∙ ap (λ n. bits n (keepsBy (policyOf (a .policy .now)) (a .q .now) (a .ends) (recordFrom (a .table .now) (a .at))))
-    (e ∙ s .pre .0 .rules-are ∙ sym (rules-of (a .policy .now)))
+    let u = c .before in
+    let a = u .before .before .before .args in
+    let m = u .u32-at .result in
+    sym (none-taken m (a .ends) (apartBy (a .each) (a .q .now) (part (a .table .now) (a .at) 28)) (u .u32-at .ok) (c .if1 .taken))
+    ∙ ap (λ x. x - bitAnd x (a .ends - bitAnd (a .ends) (apartBy (a .each) (a .q .now) (part (a .table .now) (a .at) 28)))) (u .u32-at .ensures)
+
+apart-requires : tie.Need-apart-requires
+apart-requires c κs = search needs
+
+without-requires : tie.Need-without-requires
+without-requires c κs = search needs
+
+without-requires-2 : tie.Need-without-requires-2
+without-requires-2 c κs = search needs
+
+returns-2 : tie.Need-returns-2
+unfolding clearedBy keptMarks
+returns-2 c =
+    let w = c .before in
+    let k = w .before in
+    let u = k .before .before in
+    let ends = u .before .before .before .args .ends in
+    c .without2 .ensures
+    ∙ ap₂ {C = ℕ} (λ x y. x - bitAnd x y) (u .u32-at .ensures) (w .without .ensures ∙ ap (λ a. ends - bitAnd ends a) (k .apart .ensures))
 
 pub cleared-marks-spec : {M : Type 1} → statement M
-cleared-marks-spec =
-    tie.close
-    (tie.spec
-    Inv-loop
-    μ-loop
-    add-u32-at
-    u32-at-requires
-    loop-holds
-    keeps-mark-requires
-    flag-requires
-    add-kept
-    add-i
-    loop-less
-    loop-again
-    returns)
+cleared-marks-spec = tie.close (tie.spec add-u32-at u32-at-requires returns apart-requires without-requires without-requires-2 returns-2)

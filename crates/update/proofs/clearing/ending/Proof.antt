@@ -7,7 +7,7 @@ use Rattle.words.specs.Bytes.{bits}
 use Rattle.format.specs.Policy.{policyOf}
 use Rattle.update.specs.Cleared.{endsBy}
 use Rattle.update.proofs.Policies.{few-rules}
-use Rattle.update.proofs.Masks.{bits-none, bits-more, bits-fit}
+use Rattle.words.proofs.BitLaws.{bits-start, bits-more, bits-fit}
 use borrow.Author.Needs.{needs}
 use Rattle.update.proofs.clearing.ending.Statement.{statement}
 use Rattle.update.proofs.clearing.ending.Tie as tie
@@ -19,7 +19,7 @@ abbrev μ-loop : tie.MeasureT-loop
 μ-loop policy rules q judging ends₀ i₀ ends i = rules - i
 
 loop-holds : tie.Need-loop-holds Inv-loop μ-loop
-loop-holds c = (omega arith, sym (bits-none _))
+loop-holds c = (omega arith, sym (bits-start _))
 
 ends-here-requires : tie.Need-ends-here-requires Inv-loop μ-loop
 ends-here-requires c κs = (c .before .before .before .before .pre, omega arith)

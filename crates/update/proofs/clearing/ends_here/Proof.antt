@@ -8,7 +8,7 @@ use Rattle.format.specs.Rule.{ruleAt}
 use Rattle.format.specs.Policy.{policyOf}
 use Rattle.judge.specs.Verdict.{isLast}
 use Rattle.update.specs.Cleared.{endsBy}
-use Rattle.update.proofs.Policies.{few-rules, rule-inside}
+use Rattle.update.proofs.Policies.{few-rules, block-inside}
 use Rattle.update.proofs.Masks.{first-fails, first-passes}
 use borrow.Author.Needs.{needs}
 use Rattle.update.proofs.clearing.ends_here.Statement.{statement}
@@ -34,7 +34,7 @@ part-is-last-start : tie.Need-part-is-last-start
 part-is-last-start c = search needs
 
 part-is-last-end : tie.Need-part-is-last-end
-part-is-last-end c = let s = c .before .before .before .before in omega (arith, rule-inside (s .pre .0) (s .args .i) (s .pre .1))
+part-is-last-end c = let s = c .before .before .before .before in omega (arith, block-inside (s .pre .0) (s .args .i) (s .pre .1))
 
 is-last-requires : tie.Need-is-last-requires
 is-last-requires c κs = search needs

@@ -21,8 +21,14 @@ sub-gives c =
     let s = k .before .before .before in
     omega (arith, ends-few (s .pre .0) (stand k) (s .pre .1 .1) (c .ending .ensures))
 
+each-of-requires : tie.Need-each-of-requires
+each-of-requires c κs = let s = c .before .before .before .before in (s .pre .0 .accepted, s .pre .0 .rules-are)
+
 has-room-requires : tie.Need-has-room-requires
-has-room-requires c κs = search needs
+has-room-requires c κs =
+    let k = c .before .before .before in
+    let st = stand k in
+    (k .before .before .before .pre .0 .sized, (st .holds, st .marked))
 
 same-length : tie.Need-same-length
 same-length c = search needs
@@ -30,30 +36,38 @@ same-length c = search needs
 returns : tie.Need-returns
 returns c =
     let h = c .before in
-    let e = h .before .before in
+    let x = h .before .before in
+    let e = x .before in
     let k = e .before in
     let s = k .before .before .before in
-    no-room (s .pre .0) (stand k) (s .pre .1 .1) (e .ending .ensures) (h .has-room .ensures) (c .if1 .taken)
+    no-room (s .pre .0) (stand k) (s .pre .1 .1) (e .ending .ensures) (x .each-of .ensures) (h .has-room .ensures) (c .if1 .taken)
 
 write-after-requires : tie.Need-write-after-requires
 write-after-requires c κs =
     let d = c .before in
     let h = d .before in
-    let e = h .before .before in
+    let x = h .before .before in
+    let e = x .before in
     let k = e .before in
     let s = k .before .before .before in
-    (s .pre .0, (s .pre .1 .0, room-fits (s .pre .0) (stand k) (s .pre .1 .1) (e .ending .ensures) (h .has-room .ensures) (d .if1 .left)))
+    let st = stand k in (
+      s .pre .0 .sized,
+      (
+        (st .holds, st .marked),
+        (st .image, room-fits (s .pre .0) st (s .pre .1 .1) (e .ending .ensures) (x .each-of .ensures) (h .has-room .ensures) (d .if1 .left)),
+      ),
+    )
 
 granted-requires : tie.Need-granted-requires
 granted-requires c κs =
     let w = c .before .before in
-    let d = w .before .before in
-    let h = d .before in
-    let e = h .before .before in
+    let h = w .before .before .before in
+    let x = h .before .before in
+    let e = x .before in
     let k = e .before in
     let s = k .before .before .before in
     let st = stand k in
-    (omega (arith, st .fit, st .few), held-few (s .pre .0) st (s .pre .1 .1) (e .ending .ensures) (w .write-after .ensures .1))
+    (omega (arith, st .holds), held-few (s .pre .0) st (s .pre .1 .1) (e .ending .ensures) (x .each-of .ensures) (w .write-after .ensures .1))
 
 same-length-2 : tie.Need-same-length-2
 same-length-2 c = search needs
@@ -63,10 +77,11 @@ returns-2 c =
     let w = c .before .before .before in
     let d = w .before .before in
     let h = d .before in
-    let e = h .before .before in
+    let x = h .before .before in
+    let e = x .before in
     let k = e .before in
     let s = k .before .before .before in
-    granted-is (s .pre .0) (stand k) (s .pre .1 .1) (e .ending .ensures) (h .has-room .ensures) (d .if1 .left) (s .pre .1 .0 .stamp-is)
+    granted-is (s .pre .0) (stand k) (s .pre .1 .1) (e .ending .ensures) (x .each-of .ensures) (h .has-room .ensures) (d .if1 .left) (s .pre .1 .0 .stamp-is)
     (w .write-after .ensures .0) (w .write-after .ensures .1) (c .granted .ensures)
 
 pub update-spec : {M : Type 1} → statement M
@@ -75,6 +90,7 @@ update-spec =
     (tie.spec
     ending-requires
     sub-gives
+    each-of-requires
     has-room-requires
     same-length
     returns

@@ -3,31 +3,28 @@
 use Prim.Native.Nat.{ℕ, _+_, _-_, _≤_}
 use native.Mathlib.Omega.{arith}
 use mathlib.Core.Path.{_≡_, sym, ap, ap₂, _∙_}
-use mathlib.Core.List.{[], _∷_, map}
+use mathlib.Core.List.{[], _∷_}
 use lib.ListN.{length, length-append}
-use Rattle.words.specs.Lists.{keep}
-use Rattle.format.specs.Policy.{policyOf}
 use Rattle.format.specs.Place.{recordHere, recordsHere}
-use Rattle.judge.specs.NewTable.{sweep}
-use Rattle.update.specs.Cleared.{clearedBy}
-use Rattle.update.proofs.Compaction.{records-none, sweep-more}
+use Rattle.update.specs.Cleared.{leftBy}
+use Rattle.update.proofs.Compaction.{left-start, left-more}
 use borrow.Author.Needs.{needs}
 use Rattle.update.proofs.room.kept.Statement.{statement}
 use Rattle.update.proofs.room.kept.Tie as tie
 
 abbrev Inv-loop : tie.InvT-loop
-Inv-loop policy rules q table n ends count₀ i₀ count i =
-    (i ≤ n) × ((count ≤ i) × (count ≡ length (sweep (map (clearedBy (policyOf policy) q ends) (recordsHere table i)))))
+Inv-loop each q table n ends count₀ i₀ count i = (i ≤ n) × ((count ≤ i) × (count ≡ length (leftBy each q ends (recordsHere table i))))
 
 abbrev μ-loop : tie.MeasureT-loop
-μ-loop policy rules q table n ends count₀ i₀ count i = n - i
+μ-loop each q table n ends count₀ i₀ count i = n - i
 
 loop-holds : tie.Need-loop-holds Inv-loop μ-loop
-unfolding sweep keep
-loop-holds c = (omega arith, (omega arith, rw (records-none (c .before .before .before .args .table .now))))
+loop-holds c =
+    let a = c .before .before .args in
+    (omega arith, (omega arith, sym (ap length (left-start (a .each) (a .q .now) (a .ends) (a .table .now)))))
 
 stays-requires : tie.Need-stays-requires Inv-loop μ-loop
-stays-requires c κs = let s = c .before .before .before .before .before in (s .pre .0, omega arith)
+stays-requires c κs = let s = c .before .before .before .before in ((s .pre .0, omega arith), s .pre .1)
 
 add-count : tie.Need-add-count Inv-loop μ-loop
 add-count c = search needs
@@ -41,22 +38,20 @@ loop-less c = search needs
 loop-again : tie.Need-loop-again Inv-loop μ-loop
 loop-again c =
     let l = c .before .before .loop in
-    let a = c .before .before .before .before .before .before .args in
-    let p = policyOf (a .policy .now) in
+    let a = c .before .before .before .before .before .args in
     let s = a .table .now in (
       omega arith,
       (
         omega arith,
         ap₂ (λ (x y : ℕ). x + y) (l .inv .1 .1) (c .stays .ensures .0)
-            ∙ sym (ap length (sweep-more p (a .q .now) (a .ends) s (l .i))
-            ∙ length-append (sweep (map (clearedBy p (a .q .now) (a .ends)) (recordsHere s (l .i))))
-            (sweep (clearedBy p (a .q .now) (a .ends) (recordHere s (l .i)) ∷ []))),
+            ∙ sym (ap length (left-more (a .each) (a .q .now) (a .ends) s (l .i))
+            ∙ length-append (leftBy (a .each) (a .q .now) (a .ends) (recordsHere s (l .i))) (leftBy (a .each) (a .q .now) (a .ends) (recordHere s (l .i) ∷ []))),
       ),
     )
 
 returns : tie.Need-returns Inv-loop μ-loop
 returns c =
-    let a = c .before .before .before .before .before .args in
+    let a = c .before .before .before .before .args in
     let e : c .before .loop .i ≡ a .n = omega arith in
     rw (← e) (c .before .loop .inv .1 .1)
 

@@ -1,23 +1,42 @@
--- `crate::table_after::write_cleared` meets its contract.
+-- `crate::table_after::write_cleared` meets its contract: outside the blocks that are written the table is an image still.
 -- Assumes nothing.
-use Prim.Native.Nat.{_*_, _<_}
+use Prim.Native.Nat.{_+_, _*_, _<_}
 use native.Mathlib.Omega.{arith}
+use mathlib.Core.Path.{_≡_}
+use lib.ListN.{length}
 use Rattle.words.specs.Code.{sumsOf}
 use Rattle.format.specs.Block.{blocks}
-use Rattle.format.specs.Policy.{policyOf}
-use Rattle.update.proofs.AfterLaws.{length-none, length-one, image-none, image-one}
+use Rattle.format.specs.Place.{recordsHere}
+use Rattle.table_write.proofs.SliceBytes.{slice-bytes}
+use Rattle.update.specs.Cleared.{afterBy}
+use Rattle.update.proofs.AfterLaws.{length-none, length-one, room-none, room-one, outside-none, outside-one, image-none, image-one}
 use borrow.Author.Needs.{needs}
 use Rattle.update.proofs.table_after.write_cleared.Statement.{statement}
 use Rattle.update.proofs.table_after.write_cleared.Tie as tie
 
-compact-requires : tie.Need-compact-requires
-compact-requires c κs = let s = c .before .before .before .before in (s .pre .0, (s .pre .1 .0, s .pre .1 .1 .0))
+first-changed-requires : tie.Need-first-changed-requires
+first-changed-requires c κs = search needs
 
-seal-all-requires : tie.Need-seal-all-requires
-seal-all-requires c κs =
+compact-requires : tie.Need-compact-requires
+compact-requires c κs = search needs
+
+seal-changed-requires : tie.Need-seal-changed-requires
+seal-changed-requires c κs =
     let m = c .before .before .before .before in
-    let s = m .before .before .before .before .before in
-    omega (arith, m .compact .kept .1 .1 .1 .0, s .pre .1 .0)
+    let f = m .before .before in
+    let k = f .before .before in
+    let s = k .before .before in
+    let a = s .args in
+    let d = m .compact .ensures in
+    let le = f .first-changed .ensures .0 in
+    let bytes = slice-bytes (a .table .now) (k .slice-known .given) in
+    let h = room-none (a .each) (a .q .now) (a .ends) d (sumsOf (a .stamp)) bytes (s .pre .1 .0) (s .pre .1 .1 .0) le in (
+      (h .long, h .few),
+      (
+        (le, h .fit, omega (arith, d .few, h .fit)),
+        outside-none (a .each) (a .q .now) (a .ends) d (sumsOf (a .stamp)) bytes (s .pre .1 .0) (s .pre .1 .1 .0) le,
+      ),
+    )
 
 same-length : tie.Need-same-length
 same-length c = search needs
@@ -27,30 +46,57 @@ returns c =
     let e = c .before .before in
     let z = e .before .before in
     let m = z .before .before .before in
-    let s = m .before .before .before .before .before in
-    let a = s .args in
-    let p = policyOf (a .policy .now) in (
-      image-none p (a .q .now) (a .ends) (a .table .now) _ (a .n) (m .compact .result) (m .compact .ensures .0) (sumsOf (a .stamp)) (a .gives)
-          (m .compact .kept .1 .1 .1 .0) (z .if1 .taken) (e .seal-all .ensures),
-      length-none p (a .q .now) (a .ends) (a .table .now) _ (a .n) (m .compact .result) (m .compact .ensures .0) (a .gives) (z .if1 .taken),
+    let a = m .before .before .before .before .before .before .args in
+    let d = m .compact .ensures in (
+      image-none (a .each) (a .q .now) (a .ends) d (sumsOf (a .stamp)) (a .gives) (z .if1 .taken) (e .seal-changed .ensures),
+      length-none (a .each) (a .q .now) (a .ends) d (a .gives) (z .if1 .taken),
     )
+
+-- the records that are left, and the request behind them
+one-more : (z : tie.Else1) → let m = z .before .before .before in let a = m .before .before .before .before .before .before .args in
+    m .compact .result + 1 ≡ length (afterBy (a .each) (a .q .now) (a .ends) (a .gives) (recordsHere (a .table .now) (a .n)))
+one-more z =
+    let m = z .before .before .before in
+    let a = m .before .before .before .before .before .before .args in
+    length-one (a .each) (a .q .now) (a .ends) (m .compact .ensures) (a .gives) (z .if1 .left)
+
+inside : (z : tie.Else1) → let m = z .before .before .before in m .compact .result < 15 * blocks (m .before .before .before .before .before .before .args .table .now)
+inside z = omega (arith, one-more z, z .before .before .before .before .before .before .before .before .before .pre .1 .1 .1)
 
 append-requires : tie.Need-append-requires
 append-requires c κs =
     let z = c .before in
     let m = z .before .before .before in
-    let s = m .before .before .before .before .before in
+    let s = m .before .before .before .before .before .before in
+    let h = s .pre .1 .0 in
+    let d = m .compact .ensures in
+    ((omega (arith, h .long, d .long), omega (arith, h .few, d .long)), (omega (arith, inside z, d .long), s .pre .0))
+
+add-seal-changed : tie.Need-add-seal-changed
+add-seal-changed c = search needs
+
+seal-changed-requires-2 : tie.Need-seal-changed-requires-2
+seal-changed-requires-2 c κs =
+    let n = c .before .before .before in
+    let z = n .before .before in
+    let m = z .before .before .before in
+    let f = m .before .before in
+    let k = f .before .before in
+    let s = k .before .before in
     let a = s .args in
-    let l = length-one (policyOf (a .policy .now)) (a .q .now) (a .ends) (a .table .now) _ (a .n) (m .compact .result) (m .compact .ensures .0) (a .gives) (z .if1 .left) in
-    let r = m .compact .result in
-    let i : r < 15 * blocks (a .table .now) = omega (arith, l, s .pre .1 .1 .1) in
-    (omega (arith, m .compact .kept .1 .1 .1 .0, s .pre .1 .0), (omega (arith, i, m .compact .kept .1 .1 .1 .0), s .pre .0 .sized))
-
-add-seal-all : tie.Need-add-seal-all
-add-seal-all c = search needs
-
-seal-all-requires-2 : tie.Need-seal-all-requires-2
-seal-all-requires-2 c κs = search needs
+    let d = m .compact .ensures in
+    let le = f .first-changed .ensures .0 in
+    let bytes = slice-bytes (a .table .now) (k .slice-known .given) in
+    let h =
+    room-one (a .each) (a .q .now) (a .ends) d (sumsOf (a .stamp)) bytes (s .pre .1 .0) (s .pre .1 .1 .0) le
+    (a .gives) (inside z) (s .pre .0) (n .append .ensures) in (
+      (h .long, h .few),
+      (
+        (le, h .fit, omega (arith, inside z, d .long, n .append .kept .0)),
+        outside-one (a .each) (a .q .now) (a .ends) d (sumsOf (a .stamp)) bytes (s .pre .1 .0) (s .pre .1 .1 .0) le
+            (a .gives) (inside z) (s .pre .0) (n .append .ensures),
+      ),
+    )
 
 add-result : tie.Need-add-result
 add-result c = search needs
@@ -64,29 +110,27 @@ returns-2 c =
     let n = e .before .before .before .before in
     let z = n .before .before in
     let m = z .before .before .before in
-    let s = m .before .before .before .before .before in
-    let a = s .args in
-    let p = policyOf (a .policy .now) in
-    let r = m .compact .result in
-    let l = length-one p (a .q .now) (a .ends) (a .table .now) _ (a .n) r (m .compact .ensures .0) (a .gives) (z .if1 .left) in
-    let i : r < 15 * blocks (a .table .now) = omega (arith, l, s .pre .1 .1 .1) in (
-      image-one p (a .q .now) (a .ends) (a .table .now) _ (a .n) r (m .compact .ensures .0) (sumsOf (a .stamp)) (a .gives)
-          (m .compact .kept .1 .1 .1 .0) (z .if1 .left) (s .fits .gives .fits) (s .pre .1 .0 .0) i (s .pre .0 .sized) (n .append .ensures) (n .append .kept .0)
-          (e .seal-all2 .ensures),
-      l,
+    let f = m .before .before in
+    let k = f .before .before in
+    let s = k .before .before in
+    let a = s .args in (
+      image-one (a .each) (a .q .now) (a .ends) (m .compact .ensures) (sumsOf (a .stamp)) (slice-bytes (a .table .now) (k .slice-known .given)) (s .pre .1 .0) (s .pre .1 .1 .0)
+          (f .first-changed .ensures .0) (a .gives) (inside z) (s .pre .0) (n .append .ensures) (z .if1 .left) (s .fits .gives .fits) (e .seal-changed2 .ensures),
+      one-more z,
     )
 
 pub write-cleared-spec : {M : Type 1} → statement M
 write-cleared-spec =
     tie.close
     (tie.spec
+    first-changed-requires
     compact-requires
-    seal-all-requires
+    seal-changed-requires
     same-length
     returns
     append-requires
-    add-seal-all
-    seal-all-requires-2
+    add-seal-changed
+    seal-changed-requires-2
     add-result
     same-length-2
     returns-2)

@@ -1,10 +1,10 @@
--- `crate::clearing::flag` meets its contract: the shift loses no bit.
+-- `words::field::flag` meets its contract: the shift loses no bit.
 -- Assumes nothing.
 use native.Mathlib.Omega.{arith}
 use lib.Pow.{pow-lt}
 use borrow.Author.Needs.{needs}
-use Rattle.update.proofs.clearing.flag.Statement.{statement}
-use Rattle.update.proofs.clearing.flag.Tie as tie
+use Rattle.words.proofs.field.flag.Statement.{statement}
+use Rattle.words.proofs.field.flag.Tie as tie
 
 shl-result : tie.Need-shl-result
 shl-result c = search needs
