@@ -1,23 +1,21 @@
 -- What acceptance says of a policy's blocks: the entries of a permission block, the limits of a rule, and where they stand.
 -- Assumes nothing.
-use Prim.Native.Nat.{ℕ, _+_, _*_, _≤_, _<_}
+use Prim.Native.Nat.{ℕ, _≤_, _<_}
 use native.Mathlib.Omega.{arith}
 use mathlib.Core.Path.{_≡_, sym, ap, _∙_}
 use mathlib.Core.Bool.{true, cond, _&&_}
 use mathlib.Core.List.{List}
 use mathlib.Core.Option.{none}
 use borrow.Author.Tests.{leb-true}
-use lib.ListN.{length}
 use lib.Dec.{eqb, leb}
 use Rattle.words.specs.Bytes.{byteAt}
 use Rattle.words.proofs.First.{none-first, none-second, passes-unless, none-at}
 use Rattle.words.proofs.Tests.{both-first, both-second}
-use Rattle.format.specs.Layout.{ruleKind, permissionKind, policyBlocks, highestRole}
+use Rattle.format.specs.Layout.{ruleKind, permissionKind, highestRole}
 use Rattle.format.specs.Block.{blocks, block, kind}
 use Rattle.format.specs.Rule.{Rule, exclusionAt, ruleAt, goodRule, goodExclusion, ruleFault}
 use Rattle.format.specs.Policy.{Permission, policyFault, policyBlockFault, permissionFault, permissionAt, goodPermission, goodPermissionBytes, entries, ruleCount}
-use Rattle.format.proofs.Accepted.{Blocked, blocked}
-use Rattle.format.proofs.AcceptedPolicy.{rules-few, rule-good, exclusion-good}
+use Rattle.format.proofs.AcceptedPolicy.{rule-inside, rule-good, exclusion-good}
 use Rattle.verdict.specs.Code.{EntriesFit, RuleBlock}
 use Rattle.verdict.proofs.Cut.{length-block}
 
@@ -46,10 +44,6 @@ module _ (r : Rule) (good : goodRule r ≡ true) where
   rule-exclusions = leb-true (r .exclusions) 8 (both-second (leb (r .depth) 4 && leb 1 (r .exclusions)) _ counts-pass)
 
 module _ (s : List ℕ) (accepted : policyFault s ≡ none) where
-  pub policy-length : Blocked policyBlocks s
-  unfolding policyFault
-  policy-length = blocked policyBlocks s (passes-unless _ _ (none-first _ _ accepted))
-
   block-passes : (k : ℕ) → k < blocks s → policyBlockFault s k ≡ none
   unfolding policyFault
   block-passes k h = none-at (policyBlockFault s) 0 (blocks s) k (none-second _ _ accepted) (omega arith) (omega arith)
@@ -75,12 +69,9 @@ module _ (s : List ℕ) (accepted : policyFault s ≡ none) where
 
   -- ---- a rule's block
 
-  pub rule-inside : (i : ℕ) → i < ruleCount s → 512 * i + 512 ≤ length s
-  rule-inside i h = omega (arith, policy-length, rules-few s accepted)
-
   pub rule-fits : (i : ℕ) → i < ruleCount s → RuleBlock (block s i)
   unfolding ruleAt
-  rule-fits i h = record { whole = length-block s i (rule-inside i h); depth = rule-depth (ruleAt (block s i)) (rule-good s accepted i h) }
+  rule-fits i h = record { whole = length-block s i (rule-inside s accepted i h); depth = rule-depth (ruleAt (block s i)) (rule-good s accepted i h) }
 
   pub exclusions-most : (i : ℕ) → i < ruleCount s → byteAt (block s i) 9 ≤ 8
   unfolding ruleAt

@@ -9,7 +9,7 @@ use mathlib.Core.List.{List}
 use borrow.Author.Tests.{leb-true, eq-eqb, ne-eqb}
 use lib.ListN.{length, getD}
 use lib.Dec.{eqb, leb, ltb}
-use Rattle.words.specs.Lists.{anyOf, allBelow}
+use Rattle.words.specs.Lists.{keep, anyOf, allBelow}
 use Rattle.words.specs.Bytes.{u16At, bit}
 use Rattle.words.proofs.Every.{Every, every-weaken, keep-same}
 use Rattle.words.proofs.Lists.{getD-tab}
@@ -18,11 +18,10 @@ use Rattle.words.proofs.Tests.{both-first, both-second, allBelow-at}
 use Rattle.format.specs.Request.{Request, roles, hasRole}
 use Rattle.format.specs.Rule.{Exclusion, exclusionAt, samePrivilege, blankPrivilege, goodExclusion, goodRoles, goodPrivileges}
 use Rattle.judge.specs.Tally.{roleTally, timesListed, timesDone, repeats, privilegeTally, tally}
-use Rattle.verdict.specs.Code.{membersAt, memberWord, allRoles, rolesAmong, allDone, doneWord, listedWord, repeatsWord, memberCounts, membersCount}
+use Rattle.verdict.specs.Code.{timesIn, membersAt, memberWord, rolesAmong, doneTaken, doneWord, listedWord, repeatsWord, memberCounts, membersCount, tallyIn}
 use Rattle.verdict.proofs.Sums.{sumBelow-same}
-use Rattle.verdict.proofs.Counts.{allDone-at}
+use Rattle.verdict.proofs.Counts.{doneTaken-at}
 use Rattle.verdict.proofs.Privileges.{OfBytes, does-word, same-word}
-use Rattle.verdict.proofs.OrBits.{no-bit, bit-allRoles}
 
 -- ---- what the check of an exclusion says of it
 
@@ -63,13 +62,12 @@ module _ (x : Exclusion) (good : goodExclusion x ≡ true) where
 module _ (b : List ℕ) (e : ℕ) (qs : List Request) where
   -- ---- kind 1
 
-  pub roles-tally : rolesAmong b e (exclusionAt b e .n) (allRoles 0 qs) ≡ roleTally (exclusionAt b e) qs
+  roles-tally :
+      (all : ℕ) → ((k : ℕ) → bit k all ≡ anyOf (λ q. bit k (roles q)) qs)
+      → rolesAmong b e (exclusionAt b e .n) all ≡ roleTally (exclusionAt b e) qs
   unfolding rolesAmong roleTally hasRole
-  roles-tally =
-      sumBelow-same (exclusionAt b e .n) _ _
-      (λ i h.
-      let k = u16At b (60 + 36 * e + 4 * i) - 1 in
-      ap (λ (t : Bool). cond t 1 0) (bit-allRoles k 0 qs ∙ ap (λ (t : Bool). t || anyOf (λ q. bit k (roles q)) qs) (no-bit k)))
+  roles-tally all is =
+      sumBelow-same (exclusionAt b e .n) _ _ (λ i h. ap (λ (t : Bool). cond t 1 0) (is (u16At b (60 + 36 * e + 4 * i) - 1)))
 
   -- ---- kind 2
 
@@ -97,29 +95,44 @@ module _ (b : List ℕ) (e : ℕ) (qs : List Request) where
     unfolding listedWord timesListed x
     listed-same i h = sumBelow-same (x .n) _ _ (λ j k. ap (λ (t : Bool). cond t 1 0) (member-same j i (omega arith) h))
 
-    done-same : (i : ℕ) → i < 8 → getD (allDone ms qs) i 0 ≡ timesDone (x .member i) qs
+    done-same :
+        (done : List ℕ) (i : ℕ) → i < 8 → getD done i 0 ≡ length (keep (λ q. eqb (doneWord q) (getD ms i 0)) qs)
+        → getD done i 0 ≡ timesDone (x .member i) qs
     unfolding timesDone x
-    done-same i h =
-        allDone-at ms qs i h
+    done-same done i h is =
+        is
         ∙ ap length (keep-same _ _ (every-weaken (λ q hq. ap (λ (w : ℕ). eqb (doneWord q) w) (member-at i h) ∙ sym (does-word b q (60 + 36 * e + 4 * i) bytes hq)) each))
 
-    pub privileges-tally : membersCount (membersAt b e) (exclusionAt b e .n) (allDone (membersAt b e) qs) ≡ privilegeTally (exclusionAt b e) qs
+    privileges-tally :
+        (done : List ℕ) → ((i : ℕ) → i < 8 → getD done i 0 ≡ length (keep (λ q. eqb (doneWord q) (getD (membersAt b e) i 0)) qs))
+        → membersCount (membersAt b e) (exclusionAt b e .n) done ≡ privilegeTally (exclusionAt b e) qs
     unfolding membersCount privilegeTally memberCounts ms x
-    privileges-tally =
+    privileges-tally done is =
         sumBelow-same (x .n) _ _
-        (λ i h. rw (repeats-same i (omega arith), listed-same i (omega arith), done-same i (omega arith)))
+        (λ i h. rw (repeats-same i (omega arith), listed-same i (omega arith), done-same done i (omega arith) (is i (omega arith))))
+
+  -- ---- the tally that the code takes is that of these requests
+
+  pub tally-same :
+      (i all : ℕ) (groups : List ℕ) (g : ℕ) (q : Request) → OfBytes b → Every OfBytes qs → exclusionAt b e .n ≤ 8
+      → ((k : ℕ) → bit k all ≡ anyOf (λ r. bit k (roles r)) qs)
+      → ((d : ℕ) → timesIn groups i d g + cond (eqb (doneWord q) d) 1 0 ≡ length (keep (λ r. eqb (doneWord r) d) qs))
+      → tallyIn b e i all groups g q ≡ tally (exclusionAt b e) qs
+  unfolding tallyIn tally
+  tally-same i all groups g q bytes each few isRoles isDone =
+      ap₂ {C = ℕ} (cond (eqb (exclusionAt b e .kind) 1)) (roles-tally all isRoles)
+      (privileges-tally bytes each few (doneTaken (membersAt b e) groups i g q)
+      (λ j h. doneTaken-at (membersAt b e) groups i g q j h ∙ isDone (getD (membersAt b e) j 0)))
 
 -- ---- the tally, by its kind
 
-module _ (b : List ℕ) (e : ℕ) (qs : List Request) (n r : ℕ) (same-n : n ≡ exclusionAt b e .n) where
-  pub tally-one : (all : ℕ) → exclusionAt b e .kind ≡ 1 → all ≡ allRoles 0 qs → r ≡ rolesAmong b e n all → r ≡ tally (exclusionAt b e) qs
-  unfolding tally
-  tally-one all k f g = rw (eq-eqb (exclusionAt b e .kind) 1 k) (g ∙ ap₂ {C = ℕ} (rolesAmong b e) same-n f ∙ roles-tally b e qs)
+module _ (b : List ℕ) (e i all : ℕ) (groups : List ℕ) (g : ℕ) (q : Request) (n r : ℕ) (same-n : n ≡ exclusionAt b e .n) where
+  pub tally-one : exclusionAt b e .kind ≡ 1 → r ≡ rolesAmong b e n all → r ≡ tallyIn b e i all groups g q
+  unfolding tallyIn
+  tally-one k h = rw (eq-eqb (exclusionAt b e .kind) 1 k) (h ∙ ap (λ (m : ℕ). rolesAmong b e m all) same-n)
 
   pub tally-two :
-      (ms done : List ℕ) → (exclusionAt b e .kind ≡ 1 → ⊥) → OfBytes b → Every OfBytes qs → n ≤ 8
-      → ms ≡ membersAt b e → done ≡ allDone ms qs → r ≡ membersCount ms n done → r ≡ tally (exclusionAt b e) qs
-  unfolding tally
-  tally-two ms done k bytes each few f g h =
-      rw (ne-eqb (exclusionAt b e .kind) 1 k)
-      (h ∙ ap₂ {C = ℕ} (λ l d. membersCount l n d) f (g ∙ ap (λ (l : List ℕ). allDone l qs) f) ∙ ap (λ (k : ℕ). membersCount (membersAt b e) k (allDone (membersAt b e) qs)) same-n ∙ privileges-tally b e qs bytes each (rw same-n at few))
+      (ms done : List ℕ) → (exclusionAt b e .kind ≡ 1 → ⊥) → ms ≡ membersAt b e → done ≡ doneTaken ms groups i g q → r ≡ membersCount ms n done
+      → r ≡ tallyIn b e i all groups g q
+  unfolding tallyIn
+  tally-two ms done k f d h = rw (ne-eqb (exclusionAt b e .kind) 1 k, ← f, ← same-n, ← d) h

@@ -3,10 +3,9 @@
 use Prim.Native.Nat.{ℕ, suc, _+_, _≤_, _<_}
 use native.Mathlib.Nat.{zero-add}
 use native.Mathlib.Numerals.{add-one}
-use native.Mathlib.Omega.{arith}
-use mathlib.Core.Path.{_≡_, refl, sym, _∙_}
+use mathlib.Core.Path.{_≡_, refl, sym}
 use mathlib.Core.List.{List, _++_, append-nil}
-use lib.ListN.{length, getD, drop, set, drop-of-length-le, length-append, length-drop}
+use lib.ListN.{length, getD, drop, set, drop-of-length-le}
 use lib.Seq.{append-snoc, drop-cons, getD-at, set-at}
 use Rattle.words.specs.Lists.{tab}
 use Rattle.words.proofs.Lists.{length-tab}
@@ -33,6 +32,3 @@ module _ {A : Type 0} (f : ℕ → A) where
 
   pub filled-all : (d l : List A) (j n : ℕ) → l ≡ filled d j → j ≡ n → length d ≤ n → l ≡ tab f 0 n
   filled-all d l j n e g h = rw (e, g, drop-of-length-le d {i = n} h) (append-nil (tab f 0 n))
-
-  pub length-filled : (d : List A) (j : ℕ) → j ≤ length d → length (filled d j) ≡ length d
-  length-filled d j h = length-append (tab f 0 j) (drop j d) ∙ rw (length-tab f 0 j, length-drop j d) (omega arith)

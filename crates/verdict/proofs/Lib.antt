@@ -3,14 +3,12 @@ pub mod Sums
 pub mod Cut
 pub mod AnyOf
 pub mod Privileges
-pub mod OrBits
+pub mod GroupLaws
 pub mod Counts
-pub mod Taken
 pub mod Exclusions
 pub mod AcceptedEntries
 pub mod Permissions
 pub mod Standing
-pub mod Gather
 pub mod Nested
 pub mod Searching
 pub mod VerdictRows

@@ -6,17 +6,16 @@ use native.Mathlib.Decide.{decLt}
 use native.Mathlib.Omega.{arith}
 use mathlib.Core.Path.{_≡_, refl, sym}
 use mathlib.Core.Bool.{Bool, true, false, _&&_}
-use mathlib.Core.List.{List, [], _∷_, map}
+use mathlib.Core.List.{List}
 use borrow.Author.Tests.{eqb-true, eqb-false, eq-eqb, ne-eqb}
-use lib.ListN.{getD, take, length-take, List·getD-eq-default}
+use lib.ListN.{getD, length-take, List·getD-eq-default}
 use lib.Dec.{eqb}
 use Rattle.words.specs.Bytes.{u16At, u32At, part}
-use Rattle.words.proofs.Every.{Every, empty, more, every-append}
 use Rattle.words.proofs.Parts.{byteAt-part}
 use Rattle.format.specs.Request.{Request}
 use Rattle.format.specs.Rule.{privilegeAt, samePrivilege}
 use Rattle.judge.specs.Tally.{does}
-use Rattle.verdict.specs.Code.{requestsAt, taken, doneWord}
+use Rattle.verdict.specs.Code.{doneWord}
 
 -- a list of bytes, as a slice of them is
 abbrev pub OfBytes : List ℕ → Type 0
@@ -28,14 +27,6 @@ part-bytes s at n h i = go (decLt i n)
     go : Dec (i < n) → getD (part s at n) i 0 < 256
     go (yes l) = rw (byteAt-part s at n i l) (h (at + i))
     go (no l) = rw (List·getD-eq-default (part s at n) 0 {n = i} (rw length-take (omega arith))) (omega arith)
-
-pub taken-bytes : (table run : List ℕ) (k : ℕ) (q : Request) → OfBytes table → OfBytes q → Every OfBytes (taken table run k q)
-unfolding requestsAt
-taken-bytes table run k q h g = every-append (each (take k run)) (more g empty)
-  where
-    each : (places : List ℕ) → Every OfBytes (map (λ at. part table at 28) places)
-    each [] = empty
-    each (x ∷ xs) = more (part-bytes table x 28 h) (each xs)
 
 word-same : (x y u v : ℕ) → x < 65536 → u < 65536 → eqb (x + 65536 * y) (u + 65536 * v) ≡ eqb x u && eqb y v
 word-same x y u v hx hu = go (eqb x u) (eqb y v) refl refl

@@ -2,85 +2,70 @@
 -- Assumes nothing.
 use Prim.Native.Nat.{ℕ, _+_, _-_, _*_, _≤_, _<_}
 use native.Mathlib.Omega.{arith}
-use mathlib.Core.Path.{_≡_, sym, ap, ap₂, _∙_, subst, subst⁻¹}
+use mathlib.Core.Path.{_≡_, sym, ap, _∙_, subst, subst⁻¹}
 use mathlib.Core.Bool.{Bool, true, false, cond}
-use mathlib.Core.List.{List, [], _∷_, _++_, map}
+use mathlib.Core.List.{List}
 use mathlib.Core.Option.{Option, none, some}
-use lib.ListN.{length, take}
+use lib.ListN.{length}
 use lib.Dec.{eqb}
-use Rattle.words.specs.Lists.{keep}
 use Rattle.words.specs.First.{unless, first}
 use Rattle.words.specs.Bytes.{byteAt, bit}
 use Rattle.words.proofs.Parts.{byteAt-part}
-use Rattle.words.proofs.Keep.{map-map}
 use Rattle.words.proofs.First.{first-more}
 use Rattle.format.specs.Answer.{Refusal, refusal}
 use Rattle.format.specs.Block.{block}
 use Rattle.format.specs.Request.{Request}
 use Rattle.format.specs.Rule.{exclusionAt, goodExclusion}
 use Rattle.format.specs.Policy.{policyFault, ruleCount}
-use Rattle.format.specs.Table.{Record}
-use Rattle.format.specs.Place.{recordFrom}
-use Rattle.judge.specs.Tally.{reached, exclusionNumber}
-use Rattle.verdict.specs.Code.{requestsAt, taken, Holds, standsAt, countedAt, failsAt, ruleFails, maskFails, failingOf, FoundIn}
+use Rattle.format.proofs.AcceptedPolicy.{rule-inside}
+use Rattle.judge.specs.Tally.{exclusionNumber}
+use Rattle.verdict.specs.Code.{rolesTaken, reachedIn, failsIn, ruleFails, maskFails, failingOf, FoundIn}
 use Rattle.verdict.specs.declared.verdicts.Failing.{Failing}
 use Rattle.verdict.specs.declared.verdicts.Failing.the-variants.{At}
 use Rattle.verdict.proofs.Cut.{length-block}
-use Rattle.verdict.proofs.AcceptedEntries.{rule-inside, exclusions-most, exclusion-fits}
+use Rattle.verdict.proofs.AcceptedEntries.{exclusions-most, exclusion-fits}
 use Rattle.verdict.proofs.Nested.{left, row-enter}
-
--- what a run holds is what the exclusions of its rule count
-pub counted-taken :
-    (table run : List ℕ) (k : ℕ) (b : List ℕ) (i : ℕ) (q : Request) (ms : List Record) → Holds table run k (keep (standsAt b i q) ms)
-    → countedAt b i q ms ≡ taken table run k q
-unfolding countedAt requestsAt
-counted-taken table run k b i q ms h =
-    ap (λ (rs : List Record). map (λ r. r .request) rs ++ (q ∷ [])) (sym (h .records))
-    ∙ ap (λ (qs : List Request). qs ++ (q ∷ [])) (map-map (recordFrom table) (λ r. r .request) (take k run))
 
 -- ---- one rule
 
-rule-same :
-    (policy : List ℕ) (q : Request) (ms : List Record) (i : ℕ) (table run : List ℕ) (k m : ℕ) (b : List ℕ) → b ≡ block policy i → m ≡ byteAt b 9
-    → Holds table run k (keep (standsAt b i q) ms) → ruleFails (block policy i) i q ms ≡ first (failsAt b i (taken table run k q)) 0 m
-unfolding ruleFails
-rule-same policy q ms i table run k m b f g r =
-    ap (λ (l : List ℕ). ruleFails l i q ms) (sym f)
-    ∙ ap₂ {C = Option Refusal} (λ qs c. first (failsAt b i qs) 0 c) (counted-taken table run k b i q ms r) (sym g)
-
-module _ (policy : List ℕ) (mask : ℕ) (q : Request) (ms : List Record) (i : ℕ) where
-  pub silent : bit i mask ≡ false → maskFails policy mask q ms i ≡ none
+module _ (policy : List ℕ) (mask : ℕ) (groups : List ℕ) (g : ℕ) (q : Request) (i : ℕ) where
+  pub silent : bit i mask ≡ false → maskFails policy mask groups g q i ≡ none
   unfolding maskFails
   silent e = rw e
 
-  heard : bit i mask ≡ true → maskFails policy mask q ms i ≡ ruleFails (block policy i) i q ms
+  heard : bit i mask ≡ true → maskFails policy mask groups g q i ≡ ruleFails (block policy i) i groups g q
   unfolding maskFails
   heard e = rw e
 
-  module _ (n : ℕ) {t : Option Refusal} (h : first (maskFails policy mask q ms) i (n - i) ≡ t) (l : i < n) where
+  rule-same :
+      (all m : ℕ) (b : List ℕ) → b ≡ block policy i → m ≡ byteAt b 9 → all ≡ rolesTaken groups i g q
+      → ruleFails (block policy i) i groups g q ≡ first (failsIn b i all groups g q) 0 m
+  unfolding ruleFails
+  rule-same all m b f h r = rw (← f, h, r)
+
+  module _ (n : ℕ) {t : Option Refusal} (h : first (maskFails policy mask groups g q) i (n - i) ≡ t) (l : i < n) where
     -- a rule that does not judge
-    pub rule-silent : bit i mask ≡ false → first (maskFails policy mask q ms) (i + 1) (n - (i + 1)) ≡ t
-    rule-silent e = first-more (maskFails policy mask q ms) i n h l (silent e)
+    pub rule-silent : bit i mask ≡ false → first (maskFails policy mask groups g q) (i + 1) (n - (i + 1)) ≡ t
+    rule-silent e = first-more (maskFails policy mask groups g q) i n h l (silent e)
 
     -- one that does: its exclusions are next
     pub rule-judges :
-        (table run : List ℕ) (k m : ℕ) (b : List ℕ) → bit i mask ≡ true → b ≡ block policy i → m ≡ byteAt b 9
-        → Holds table run k (keep (standsAt b i q) ms)
-        → left (maskFails policy mask q ms) (failsAt b i (taken table run k q)) i n 0 m ≡ t
-    rule-judges table run k m b e f g r =
-        row-enter (maskFails policy mask q ms) (failsAt b i (taken table run k q)) i n m h l (heard e ∙ rule-same policy q ms i table run k m b f g r)
+        (all m : ℕ) (b : List ℕ) → bit i mask ≡ true → b ≡ block policy i → m ≡ byteAt b 9 → all ≡ rolesTaken groups i g q
+        → left (maskFails policy mask groups g q) (failsIn b i all groups g q) i n 0 m ≡ t
+    rule-judges all m b e f k r =
+        row-enter (maskFails policy mask groups g q) (failsIn b i all groups g q) i n m h l (heard e ∙ rule-same all m b f k r)
 
 -- ---- one exclusion
 
-module _ (policy b : List ℕ) (i e : ℕ) (qs : List Request) (x : Bool) (same : x ≡ reached (exclusionAt b e) qs) where
+module _ (policy b : List ℕ) (i e all : ℕ) (groups : List ℕ) (g : ℕ) (q : Request) (x : Bool) (same : x ≡ reachedIn b e i all groups g q) where
   pub exclusion-fails :
       x ≡ true → b ≡ block policy i
-      → failsAt b i qs e ≡ some (refusal (exclusionNumber (exclusionAt (block policy i) e)) (i + 1) (e + 1))
-  unfolding failsAt unless
+      → failsIn b i all groups g q e ≡ some (refusal (exclusionNumber (exclusionAt (block policy i) e)) (i + 1) (e + 1))
+  unfolding failsIn unless
   exclusion-fails h f = rw (← same, h, f)
 
-  pub exclusion-passes : x ≡ false → failsAt b i qs e ≡ none
-  unfolding failsAt unless
+  pub exclusion-passes : x ≡ false → failsIn b i all groups g q e ≡ none
+  unfolding failsIn unless
   exclusion-passes h = rw (← same, h)
 
 -- what the tally asks of exclusion e of rule i

@@ -1,27 +1,37 @@
--- Step 2: the search of a table for a record that stands in a run place, and the rules that judge.
+-- Where the records of a table stand, and what a pass over them finds, record by record.
 -- Assumes nothing.
-use Prim.Native.Nat.{ℕ, suc, _+_, _*_, _%_, _^_, _<_, _≤_}
-use native.Mathlib.Nat.{pow-suc}
+use Prim.Native.Nat.{ℕ, _+_, _-_, _<_, _≤_}
+use native.Mathlib.Nat.{zero-add}
 use native.Mathlib.Numerals.{add-one}
+use native.Mathlib.Decide.{decLt}
 use native.Mathlib.Omega.{arith}
 use mathlib.Core.Path.{_≡_, refl, sym, ap, ap₂, _∙_}
-use mathlib.Core.Bool.{Bool, true, false, cond, not, _&&_, _||_}
-use mathlib.Core.List.{List}
-use borrow.Author.Tests.{eq-eqb, ne-eqb}
-use lib.ListN.{length}
-use lib.Pow.{pow-lt, pow-mono}
-use Rattle.words.specs.Bytes.{byteAt, bits}
-use Rattle.words.proofs.Bits.{bits-below}
-use Rattle.words.specs.Lists.{anyOf, anyBelow}
-use Rattle.format.specs.Request.{Request}
-use Rattle.format.specs.Rule.{ruleAt, isSet}
+use mathlib.Core.Bool.{Bool, true, false, cond, not, _&&_, _||_, false≢true}
+use mathlib.Core.List.{List, [], _∷_, _++_}
+use mathlib.Core.Option.{none}
+use lib.ListN.{length, length-append}
+use lib.Bits.{bitAnd, bitOr}
+use lib.Dec.{eqb}
+use Rattle.words.specs.Bytes.{part, bit}
+use Rattle.words.specs.Lists.{keep, anyOf, sumBelow}
+use Rattle.words.proofs.Keep.{keep-append, anyOf-append}
+use Rattle.format.specs.Layout.{requestBytes}
+use Rattle.format.specs.Request.{Request, user, roles}
+use Rattle.format.specs.Block.{block}
+use Rattle.format.specs.Rule.{ruleAt}
 use Rattle.format.specs.Fits.{fits, samePlace}
-use Rattle.format.specs.Table.{Record, marked}
+use Rattle.format.specs.Policy.{Policy, policyFault, policyOf, ruleCount}
+use Rattle.format.specs.Table.{Record}
 use Rattle.format.specs.Place.{recordPlace, recordFrom, recordHere, recordsHere}
-use Rattle.judge.specs.Verdict.{isFirst, judges}
-use Rattle.verdict.specs.Code.{HasRoom, standsAt, judgesOver}
-use Rattle.verdict.proofs.AnyOf.{any-tab}
-use Rattle.verdict.proofs.Sums.{any-hit, any-miss, any-none}
+use Rattle.judge.specs.Tally.{sameUser}
+use Rattle.judge.specs.NewTable.{standsIn}
+use Rattle.places.specs.declared.masks.Each.{Each}
+use Rattle.places.specs.Masks.{EachOf, apartIn, apartBy}
+use Rattle.places.proofs.Apart.{apart-is}
+use Rattle.table_write.proofs.Parts.{tab-more}
+use Rattle.verdict.specs.Code.{HasRoom, rolesIn, timesIn, Grown, doneWord, fittingIn, countsFor, Scanned}
+use Rattle.words.proofs.Bits.{bit-none, bit-bits, bit-beyond}
+use Rattle.words.proofs.BitLaws.{bit-or, bit-and, bit-without}
 
 -- where a record of the table stands
 module _ (table : List ℕ) (n : ℕ) (room : HasRoom table n) where
@@ -31,89 +41,110 @@ module _ (table : List ℕ) (n : ℕ) (room : HasRoom table n) where
   pub place-inside : (k : ℕ) → k < n → recordPlace k + 32 ≤ length table
   place-inside k h = omega arith
 
-  pub place-fits : (k : ℕ) → k < n → recordPlace k < 65536
-  place-fits k h = omega (arith, place-inside k h)
-
--- ---- the search of the table
-
-abbrev pub standsHere : List ℕ → ℕ → Request → List ℕ → ℕ → Bool
-standsHere b i q table k = standsAt b i q (recordHere table k)
-
-module _ (b : List ℕ) (i : ℕ) (q : Request) (table : List ℕ) (k at : ℕ) (x : Bool) where
-  found-here : at ≡ recordPlace k → x ≡ standsAt b i q (recordFrom table at) → x ≡ standsHere b i q table k
-  found-here e f = f ∙ ap (λ (a : ℕ). standsAt b i q (recordFrom table a)) e
-
-  pub open-hit : (n : ℕ) → k < n → at ≡ recordPlace k → x ≡ standsAt b i q (recordFrom table at) → x ≡ true → true ≡ anyOf (standsAt b i q) (recordsHere table n)
-  unfolding recordsHere
-  open-hit n h e f g = any-hit (standsHere b i q table) k n x h (found-here e f) g ∙ sym (any-tab (standsAt b i q) (recordHere table) n)
-
-  pub open-more :
-      at ≡ recordPlace k → x ≡ standsAt b i q (recordFrom table at) → x ≡ false
-      → anyBelow k (standsHere b i q table) ≡ false → anyBelow (k + 1) (standsHere b i q table) ≡ false
-  open-more e f g h = any-miss (standsHere b i q table) k x (found-here e f) g h
-
-pub open-done :
-    (b : List ℕ) (i : ℕ) (q : Request) (table : List ℕ) (k n : ℕ) → k ≡ n → anyBelow k (standsHere b i q table) ≡ false
-    → false ≡ anyOf (standsAt b i q) (recordsHere table n)
+pub records-more : (table : List ℕ) (k : ℕ) → recordsHere table (k + 1) ≡ recordsHere table k ++ (recordHere table k ∷ [])
 unfolding recordsHere
-open-done b i q table k n e h = any-none (standsHere b i q table) k n e h ∙ sym (any-tab (standsAt b i q) (recordHere table) n)
+records-more table k = rw (add-one k, tab-more (recordHere table) 0 k, zero-add k)
 
--- ---- one record; one rule
+-- ---- the rules that the request fits
 
-module _ (b : List ℕ) (i : ℕ) (q : Request) (r : Record) where
-  pub stands-not : marked i r ≡ false → false ≡ standsAt b i q r
-  unfolding standsAt
-  stands-not e = rw e
+module _ (policy : List ℕ) (q : Request) (fitting : ℕ) (same : fitting ≡ fittingIn (policyOf policy) q) where
+  pub bit-fits : (i : ℕ) → i < ruleCount policy → bit i fitting ≡ fits (ruleAt (block policy i)) q
+  unfolding fittingIn policyOf
+  bit-fits i h = ap (bit i) same ∙ bit-bits (ruleCount policy) _ i h
 
-  pub stands-marked : (x : Bool) → marked i r ≡ true → x ≡ samePlace (ruleAt b) q (r .request) → x ≡ standsAt b i q r
-  unfolding standsAt
-  stands-marked x e f = rw e f
+  no-rule : (i : ℕ) → ruleCount policy ≤ i → bit i fitting ≡ false
+  unfolding fittingIn policyOf
+  no-rule i h = ap (bit i) same ∙ bit-beyond (ruleCount policy) _ i h
 
-module _ (b : List ℕ) (i : ℕ) (q : Request) (rs : List Record) where
-  pub judges-not : fits (ruleAt b) q ≡ false → false ≡ judgesOver b i q rs
-  unfolding judgesOver judges
-  judges-not e = rw e
-
-  pub judges-always : fits (ruleAt b) q ≡ true → (byteAt b 10 ≡ 1 → ⊥) → true ≡ judgesOver b i q rs
-  unfolding judgesOver judges ruleAt
-  judges-always e f = rw e (rw (ne-eqb (byteAt b 10) 1 f))
-
-  pub judges-first : fits (ruleAt b) q ≡ true → isFirst (ruleAt b) q ≡ true → true ≡ judgesOver b i q rs
-  unfolding judgesOver judges
-  judges-first e f = rw (e, f) (go (isSet (ruleAt b .firstStep)))
+  fitting-below : (i : ℕ) → bit i fitting ≡ true → i < ruleCount policy
+  fitting-below i e = go (decLt i (ruleCount policy))
     where
-      go : (t : Bool) → true ≡ true && (not t || true || anyOf (standsAt b i q) rs)
+      go : Dec (i < ruleCount policy) → i < ruleCount policy
+      go (yes h) = h
+      go (no h) = absurd (false≢true (sym (no-rule i (omega arith)) ∙ e))
+
+  -- what the code shares out to a record is what stands in the request's run place
+  pub shared-stands :
+      policyFault policy ≡ none → (e : Each) → EachOf (policyOf policy) e → (r : Record) (shared : ℕ)
+      → shared ≡ bitAnd (r .marks) fitting - bitAnd (bitAnd (r .marks) fitting) (apartBy e q (r .request))
+      → (i : ℕ) → bit i fitting ≡ true → bit i shared ≡ standsIn (policyOf policy) q i r
+  unfolding standsIn apartIn policyOf
+  shared-stands accepted e is r shared f i h =
+      ap (bit i) f
+      ∙ bit-without i (bitAnd (r .marks) fitting) (apartBy e q (r .request))
+      ∙ rw (bit-and i (r .marks) fitting, h, apart-is policy accepted e is q (r .request)) (rw (bit-bits (ruleCount policy) (λ j. not (samePlace (ruleAt (block policy j)) q (r .request))) i (fitting-below i h)) (both (bit i (r .marks)) (samePlace (ruleAt (block policy i)) q (r .request))))
+    where
+      both : (m s : Bool) → (m && true) && not (not s) ≡ m && s
+      both true true = refl
+      both true false = refl
+      both false s = refl
+
+-- ---- one element more
+
+module _ {A : Type 0} (t : A → Bool) (xs : List A) (x : A) where
+  count-snoc : length (keep t (xs ++ (x ∷ []))) ≡ length (keep t xs) + cond (t x) 1 0
+  unfolding keep
+  count-snoc = ap length (keep-append t xs (x ∷ [])) ∙ length-append (keep t xs) _ ∙ ap (λ (k : ℕ). length (keep t xs) + k) (go (t x))
+    where
+      go : (b : Bool) → length (cond b (x ∷ []) []) ≡ cond b 1 0
       go true = refl
       go false = refl
 
-  first-set : byteAt b 10 ≡ 1 → isSet (ruleAt b .firstStep) ≡ true
-  unfolding ruleAt
-  first-set f = eq-eqb (byteAt b 10) 1 f
+  any-snoc : anyOf t (xs ++ (x ∷ [])) ≡ anyOf t xs || t x
+  unfolding anyOf
+  any-snoc = anyOf-append t xs (x ∷ []) ∙ ap (λ (b : Bool). anyOf t xs || b) (go (t x))
+    where
+      go : (b : Bool) → b || false ≡ b
+      go true = refl
+      go false = refl
 
-  pub judges-open :
-      (x : Bool) → fits (ruleAt b) q ≡ true → byteAt b 10 ≡ 1 → isFirst (ruleAt b) q ≡ false → x ≡ anyOf (standsAt b i q) rs
-      → x ≡ judgesOver b i q rs
-  unfolding judgesOver judges
-  judges-open x e f g h = rw (e, first-set f, g) h
+-- ---- the pass
 
--- ---- the marks of the rules that judge
+module _ (p : Policy) (q : Request) (mask : ℕ) where
+  pub scan-start : (groups : List ℕ) → Scanned p q mask 0 groups 0 []
+  unfolding anyOf keep rolesIn timesIn sumBelow
+  scan-start groups =
+      record {
+        isOpen = λ i h. bit-none i;
+        allRoles = λ i h k. bit-none k;
+        allTimes = λ i h d. refl;
+      }
 
-pub shift-one : (i : ℕ) → i < 32 → 1 * 2 ^ i % 4294967296 ≡ 2 ^ i
-shift-one i h = small (2 ^ i) (pow-lt h)
-  where
-    small : (x : ℕ) → x < 4294967296 → 1 * x % 4294967296 ≡ x
-    small x g = omega arith
+  pub scan-turn :
+      (opens shared : ℕ) (old : List ℕ) (g : ℕ) (new : List ℕ) (h : ℕ) (rs : List Record) (x : Record)
+      → Scanned p q mask opens old g rs
+      → ((i : ℕ) → bit i mask ≡ true → bit i shared ≡ standsIn p q i x)
+      → Grown (sameUser (user q) (x .request)) shared (roles (x .request)) (doneWord (x .request)) old g new h
+      → Scanned p q mask (bitOr opens shared) new h (rs ++ (x ∷ []))
+  unfolding countsFor
+  scan-turn opens shared old g new h rs x s is grown =
+      record {
+        isOpen =
+            λ i m.
+            bit-or i opens shared ∙ ap₂ {C = Bool} _||_ (s .isOpen i m) (is i m) ∙ sym (any-snoc (standsIn p q i) rs x);
+        allRoles =
+            λ i m k.
+            grown .allRoles i k
+            ∙ ap₂ {C = Bool} (λ a b. a || (b && (sameUser (user q) (x .request) && bit k (roles (x .request))))) (s .allRoles i m k) (is i m)
+            ∙ sym (any-snoc (countsFor p q i (λ r. bit k (roles r))) rs x);
+        allTimes =
+            λ i m d.
+            grown .allTimes i d
+            ∙ ap₂ {C = ℕ} (λ a b. a + cond (b && (sameUser (user q) (x .request) && eqb (doneWord (x .request)) d)) 1 0) (s .allTimes i m d) (is i m)
+            ∙ sym (count-snoc (countsFor p q i (λ r. eqb (doneWord r) d)) rs x);
+      }
 
-pub marks-fit : (i : ℕ) (f : ℕ → Bool) (x v : ℕ) (set : Bool) → i < 32 → x ≡ bits i f → v ≡ cond set (2 ^ i) 0 → x + v < 4294967296
-marks-fit i f x v set h e g = go set g
-  where
-    go : (t : Bool) → v ≡ cond t (2 ^ i) 0 → x + v < 4294967296
-    go true k = omega (arith, bits-below i f, pow-suc 2 i, pow-mono {i = suc i} {j = 32} (omega arith))
-    go false k = omega (arith, bits-below i f, pow-lt {i = i} {j = 32} h)
+  -- at record k of a table
+  pub scan-record :
+      (table : List ℕ) (k at opens shared : ℕ) (old : List ℕ) (g : ℕ) (new : List ℕ) (h u : ℕ) → at ≡ recordPlace k → u ≡ user q
+      → Scanned p q mask opens old g (recordsHere table k)
+      → ((i : ℕ) → bit i mask ≡ true → bit i shared ≡ standsIn p q i (recordFrom table at))
+      → Grown (sameUser u (part table at requestBytes)) shared (roles (part table at requestBytes)) (doneWord (part table at requestBytes)) old g new h
+      → Scanned p q mask (bitOr opens shared) new h (recordsHere table (k + 1))
+  scan-record table k at opens shared old g new h u e f s is grown =
+      rw (records-more table k, ← e) (scan-turn opens shared old g new h (recordsHere table k) (recordFrom table at) s is (rw f at grown))
 
-pub marks-more : (i : ℕ) (f : ℕ → Bool) (x v : ℕ) (set : Bool) → x ≡ bits i f → set ≡ f i → v ≡ cond set (2 ^ i) 0 → x + v ≡ bits (i + 1) f
-unfolding bits
-marks-more i f x v set e g h = rw (add-one i) (ap₂ {C = ℕ} (λ a b. a + b) e (h ∙ ap (λ (t : Bool). cond t (2 ^ i) 0) g))
-
-pub marks-all : (i n : ℕ) (f : ℕ → Bool) (x : ℕ) → x ≡ bits i f → i ≡ n → x ≡ bits n f
-marks-all i n f x e g = rw (← g) e
+  pub scan-all :
+      (table : List ℕ) (k n opens : ℕ) (groups : List ℕ) (g : ℕ) → k ≡ n → Scanned p q mask opens groups g (recordsHere table k)
+      → Scanned p q mask opens groups g (recordsHere table n)
+  scan-all table k n opens groups g e s = rw (← e) s

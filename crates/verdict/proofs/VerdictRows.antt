@@ -1,111 +1,249 @@
--- Steps 1 to 3 from what their code finds: the mask of the rules that judge, and the search over one user's records.
+-- Steps 1 to 3 from what their code finds: the rules that the request fits, the pass over the records, the rules that judge, and the search.
 -- Assumes nothing.
-use Prim.Native.Nat.{ℕ, _<_}
+use Prim.Native.Nat.{ℕ, _+_, _*_, _<_}
 use native.Mathlib.Omega.{arith}
 use mathlib.Core.Path.{_≡_, refl, sym, ap, ap₂, _∙_}
-use mathlib.Core.Bool.{Bool, true, false, cond, _&&_}
-use mathlib.Core.List.{List, [], _∷_, _++_, map}
+use mathlib.Core.Bool.{Bool, true, false, cond, not, _&&_, _||_}
+use mathlib.Core.List.{List, [], _∷_, map}
 use mathlib.Core.Option.{Option, none, some}
-use Rattle.words.specs.Lists.{keep}
+use lib.ListN.{length, length-map, length-append}
+use lib.Dec.{eqb, leb}
+use Rattle.words.specs.Lists.{keep, anyOf}
 use Rattle.words.specs.First.{_orElse_, unless, first}
 use Rattle.words.specs.Bytes.{byteAt, bit}
-use Rattle.words.proofs.Every.{every-all, keep-same}
-use Rattle.words.proofs.Keep.{keep-keep, keep-map}
+use Rattle.words.proofs.Every.{Every, empty, more, every-append, every-keep, every-map, every-tab}
+use Rattle.words.proofs.Keep.{keep-append, keep-keep, keep-map, anyOf-append}
 use Rattle.words.proofs.First.{first-same, first-none}
-use Rattle.words.proofs.Bits.{bit-bits}
+use Rattle.words.proofs.Bits.{bit-none, bit-bits, bits-same}
+use Rattle.words.proofs.BitLaws.{bit-or, bits-none}
+use Rattle.words.proofs.Tests.{both-first}
 use Rattle.format.specs.Answer.{Refusal, refusal}
+use Rattle.format.specs.Layout.{requestBytes}
 use Rattle.format.specs.Block.{block}
-use Rattle.format.specs.Request.{Request, user}
-use Rattle.format.specs.Rule.{ruleAt}
-use Rattle.format.specs.Policy.{Policy, policyOf, ruleCount}
+use Rattle.format.specs.Request.{Request, user, roles}
+use Rattle.format.specs.Rule.{exclusionAt, ruleAt}
+use Rattle.format.specs.Fits.{fits}
+use Rattle.format.specs.Policy.{Policy, policyFault, policyOf, ruleCount}
 use Rattle.format.specs.Table.{Record}
-use Rattle.judge.specs.Tally.{sameUser, counted}
+use Rattle.format.specs.Place.{recordPlace, recordHere, recordsHere}
+use Rattle.judge.specs.Tally.{sameUser, counted, reached, exclusionNumber}
 use Rattle.judge.specs.Verdict.{permitted, judges, failing, verdict}
 use Rattle.judge.specs.NewTable.{standsIn, openIn, pastIn}
-use Rattle.verdict.specs.Code.{standsAt, judgingIn, userRecords, countedAt, failsAt, ruleFails, maskFails, VerdictIs}
-use Rattle.verdict.proofs.OrBits.{no-bit}
-use Rattle.verdict.proofs.Searching.{silent}
+use Rattle.verdict.specs.Code.{rolesIn, timesIn, doneWord, rolesTaken, reachedIn, fittingIn, judgingBy, judgingIn, countsFor, Scanned, failsIn, ruleFails, maskFails, VerdictIs}
+use Rattle.verdict.proofs.AcceptedEntries.{exclusion-fits}
+use Rattle.verdict.proofs.Privileges.{OfBytes, part-bytes}
+use Rattle.verdict.proofs.Exclusions.{n-most, tally-same}
+use Rattle.verdict.proofs.Standing.{bit-fits}
 
-and-swap : (x y : Bool) → x && y ≡ y && x
-and-swap true true = refl
-and-swap true false = refl
-and-swap false true = refl
-and-swap false false = refl
+-- ---- what the rule of index i counts, from its records
 
--- those of a user among those that stand, and those that stand among the user's, are one
-kept-same : (s t : Record → Bool) (rs : List Record) → keep s (keep t rs) ≡ keep t (keep s rs)
-kept-same s t rs =
-    keep-keep t s rs
-    ∙ keep-same (λ r. t r && s r) (λ r. s r && t r) (every-all (λ r. t r && s r ≡ s r && t r) (λ r. and-swap (t r) (s r)) rs)
-    ∙ sym (keep-keep s t rs)
+any-keep : {A : Type 0} (f t : A → Bool) (xs : List A) → anyOf f (keep t xs) ≡ anyOf (λ x. t x && f x) xs
+unfolding anyOf keep
+any-keep f t [] = refl
+any-keep f t (x ∷ xs) = go (t x) (any-keep f t xs)
+  where
+    go : (b : Bool) → anyOf f (keep t xs) ≡ anyOf (λ y. t y && f y) xs → anyOf f (cond b (x ∷ keep t xs) (keep t xs)) ≡ (b && f x) || anyOf (λ y. t y && f y) xs
+    go true h = rw h
+    go false h = h
 
-module _ (policy : List ℕ) (q : Request) (rs : List Record) where
-  p : Policy
+any-map : {A B : Type 0} (f : B → Bool) (h : A → B) (xs : List A) → anyOf f (map h xs) ≡ anyOf (λ x. f (h x)) xs
+unfolding anyOf
+any-map f h [] = refl
+any-map f h (x ∷ xs) = rw (any-map f h xs)
+
+module _ (p : Policy) (q : Request) (rs : List Record) (i : ℕ) (test : Request → Bool) where
+  past : List Request
+  past = pastIn p rs q i
+
+  mine : Request → Bool
+  mine r = sameUser (user q) r
+
+  any-past : anyOf test (keep mine past) ≡ anyOf (countsFor p q i test) rs
+  unfolding past mine pastIn countsFor
+  any-past =
+      any-keep test mine past
+      ∙ any-map (λ r. mine r && test r) (λ r. r .request) (keep (standsIn p q i) rs)
+      ∙ any-keep (λ r. mine (r .request) && test (r .request)) (standsIn p q i) rs
+
+  count-past : length (keep test (keep mine past)) ≡ length (keep (countsFor p q i test) rs)
+  unfolding past mine pastIn countsFor
+  count-past =
+      ap length (keep-keep mine test past ∙ keep-map (λ r. r .request) (λ r. mine r && test r) (keep (standsIn p q i) rs))
+      ∙ length-map (keep (λ r. mine (r .request) && test (r .request)) (keep (standsIn p q i) rs)) (λ r. r .request)
+      ∙ ap length (keep-keep (standsIn p q i) (λ r. mine (r .request) && test (r .request)) rs)
+
+  pub any-counted : anyOf test (counted q (pastIn p rs q i)) ≡ anyOf (countsFor p q i test) rs || test q
+  unfolding counted past mine anyOf
+  any-counted = anyOf-append test (keep mine past) (q ∷ []) ∙ ap₂ {C = Bool} _||_ any-past (or-false (test q))
+    where
+      or-false : (t : Bool) → t || false ≡ t
+      or-false true = refl
+      or-false false = refl
+
+  pub count-counted : length (keep test (counted q (pastIn p rs q i))) ≡ length (keep (countsFor p q i test) rs) + cond (test q) 1 0
+  unfolding counted past mine keep
+  count-counted =
+      ap length (keep-append test (keep mine past) (q ∷ []))
+      ∙ length-append (keep test (keep mine past)) (cond (test q) (q ∷ []) [])
+      ∙ ap₂ {C = ℕ} _+_ count-past (one (test q))
+    where
+      one : (t : Bool) → length (cond t (q ∷ []) []) ≡ cond t 1 0
+      one true = refl
+      one false = refl
+
+-- the records of a table are bytes, and so is what is counted of them
+counted-bytes :
+    (p : Policy) (table : List ℕ) (n : ℕ) (q : Request) (i : ℕ) → OfBytes table → OfBytes q
+    → Every OfBytes (counted q (pastIn p (recordsHere table n) q i))
+unfolding counted pastIn recordsHere
+counted-bytes p table n q i h g =
+    every-append
+    (every-keep OfBytes (sameUser (user q))
+    (every-map (λ r. r .request) (λ r k. k)
+    (every-keep (λ r. OfBytes (r .request)) (standsIn p q i)
+    (every-tab (recordHere table) 0 n (λ j lo hi. part-bytes table (recordPlace j) requestBytes h)))))
+    (more g empty)
+
+-- ---- steps 2 and 3 over the records of a table
+
+module _ (policy : List ℕ) (accepted : policyFault policy ≡ none) (q : Request) (table : List ℕ) (n : ℕ) where
+  abbrev p : Policy
   p = policyOf policy
 
-  stands-same : (i : ℕ) → standsAt (block policy i) i q ≡ standsIn p q i
-  unfolding p policyOf standsIn standsAt
-  stands-same i = refl
+  abbrev rs : List Record
+  rs = recordsHere table n
 
-  counted-same : (i : ℕ) → countedAt (block policy i) i q (userRecords (user q) rs) ≡ counted q (pastIn p rs q i)
-  unfolding countedAt userRecords counted pastIn
-  counted-same i =
-      ap (λ (t : Record → Bool). map (λ r. r .request) (keep t (keep (λ r. sameUser (user q) (r .request)) rs)) ++ (q ∷ [])) (stands-same i)
-      ∙ ap (λ (l : List Record). map (λ r. r .request) l ++ (q ∷ [])) (kept-same (standsIn p q i) (λ r. sameUser (user q) (r .request)) rs)
-      ∙ ap (λ (l : List Request). l ++ (q ∷ [])) (sym (keep-map (λ r. r .request) (sameUser (user q)) (keep (standsIn p q i) rs)))
+  -- the rules that the request fits
+  fits-bit : (fitting : ℕ) → fitting ≡ fittingIn p q → (i : ℕ) → i < ruleCount policy → bit i fitting ≡ fits (p .rule i) q
+  unfolding policyOf
+  fits-bit fitting same i h = bit-fits policy q fitting same i h
 
-  rule-same : (i : ℕ) → ruleFails (block policy i) i q (userRecords (user q) rs) ≡ failing i (p .rule i) q (pastIn p rs q i)
-  unfolding ruleFails failing failsAt p policyOf ruleAt
-  rule-same i = ap (λ (qs : List Request). first (failsAt (block policy i) i qs) 0 (byteAt (block policy i) 9)) (counted-same i)
+  not-fitting : (i : ℕ) (o : Bool) → fits (p .rule i) q ≡ false → judges (p .rule i) q o ≡ false
+  unfolding judges
+  not-fitting i o e = rw e
 
+  judging-fits : (i : ℕ) (o : Bool) → judges (p .rule i) q o ≡ true → fits (p .rule i) q ≡ true
+  unfolding judges
+  judging-fits i o e = both-first _ _ e
+
+  -- what each rule finds
   row : ℕ → Option Refusal
   row i = cond (judges (p .rule i) q (openIn p rs q i)) (failing i (p .rule i) q (pastIn p rs q i)) none
 
-  module _ (mask : ℕ) (same : mask ≡ judgingIn p rs q) where
-    bit-same : (i : ℕ) → i < ruleCount policy → bit i mask ≡ judges (p .rule i) q (openIn p rs q i)
-    unfolding judgingIn p policyOf
-    bit-same i h = ap (bit i) same ∙ bit-bits (ruleCount policy) _ i h
-
-    row-same : (i : ℕ) → i < ruleCount policy → maskFails policy mask q (userRecords (user q) rs) i ≡ row i
-    unfolding maskFails row
-    row-same i h = rw (bit-same i h, rule-same i)
-
-    rows-same : first (maskFails policy mask q (userRecords (user q) rs)) 0 (ruleCount policy) ≡ first row 0 (ruleCount policy)
-    rows-same = first-same _ _ 0 (ruleCount policy) (λ i lo hi. row-same i (omega arith))
-
-  -- ---- the verdict
-
   verdict-rows : permitted p q ≡ true → verdict p q (openIn p rs q) (pastIn p rs q) ≡ first row 0 (ruleCount policy)
-  unfolding verdict unless _orElse_ p policyOf row
+  unfolding verdict unless _orElse_ policyOf row
   verdict-rows e = rw e
 
-  pub verdict-refused : permitted (policyOf policy) q ≡ false → (m : ℕ) → VerdictIs (policyOf policy) rs q (some (refusal 31 0 0)) m
+  -- step 1 refuses
+  pub verdict-refused : permitted (policyOf policy) q ≡ false → (m : ℕ) → VerdictIs (policyOf policy) (recordsHere table n) q (some (refusal 31 0 0)) m
   unfolding verdict unless _orElse_
   verdict-refused e m = record { faults = rw e; marks = λ h. absurd (some-none h) }
     where
       some-none : {a : Refusal} → some a ≡ none → ⊥
       some-none h = let z : _≡_ {A = ℕ} 0 1 = cc in omega arith
 
-  module _ (yes : permitted (policyOf policy) q ≡ true) (mask : ℕ) (same : mask ≡ judgingIn (policyOf policy) rs q) where
-    -- no rule judges
-    pub verdict-silent : mask ≡ 0 → VerdictIs (policyOf policy) rs q none 0
-    unfolding p
-    verdict-silent e =
-        record {
-          faults = sym (verdict-rows yes ∙ sym (rows-same mask same) ∙ first-none _ 0 (ruleCount policy) (λ i lo hi. none-at i));
-          marks = λ h. sym e ∙ same;
-        }
-      where
-        none-at : (i : ℕ) → maskFails policy mask q (userRecords (user q) rs) i ≡ none
-        none-at i = silent policy mask q (userRecords (user q) rs) i (ap (bit i) e ∙ no-bit i)
+  -- the request fits no rule
+  module _ (fitting : ℕ) (same : fitting ≡ fittingIn p q) (nowhere : fitting ≡ 0) where
+    silent-at : (i : ℕ) → i < ruleCount policy → judges (p .rule i) q (openIn p rs q i) ≡ false
+    silent-at i h = not-fitting i _ (sym (fits-bit fitting same i h) ∙ ap (bit i) nowhere ∙ bit-none i)
 
-    -- what the search over the user's records found
-    pub verdict-found :
-        (ms : List Record) (rules : ℕ) (found : Option Refusal) → ms ≡ userRecords (user q) rs → rules ≡ ruleCount policy
-        → found ≡ first (maskFails policy mask q ms) 0 rules → VerdictIs (policyOf policy) rs q found mask
-    unfolding p
-    verdict-found ms rules found e f g =
+    row-silent : (i : ℕ) → i < ruleCount policy → row i ≡ none
+    unfolding row
+    row-silent i h = rw (silent-at i h)
+
+    none-judge : 0 ≡ judgingIn p rs q
+    unfolding judgingIn policyOf
+    none-judge = sym (bits-same (ruleCount policy) _ (λ i. false) silent-at ∙ bits-none (ruleCount policy))
+
+    pub verdict-silent : permitted (policyOf policy) q ≡ true → VerdictIs (policyOf policy) (recordsHere table n) q none 0
+    verdict-silent granted =
         record {
-          faults = g ∙ ap₂ {C = Option Refusal} (λ l n. first (maskFails policy mask q l) 0 n) e f ∙ rows-same mask same ∙ sym (verdict-rows yes);
-          marks = λ h. same;
+          faults = sym (verdict-rows granted ∙ first-none row 0 (ruleCount policy) (λ i lo hi. row-silent i (omega arith)));
+          marks = λ h. none-judge;
         }
+
+  -- it fits some, and a pass over the records has found this
+  module _
+      (fitting opens : ℕ) (groups : List ℕ) (g : ℕ) (same : fitting ≡ fittingIn (policyOf policy) q)
+      (scan : Scanned (policyOf policy) q fitting opens groups g (recordsHere table n)) where
+    judges-same : (i : ℕ) → i < ruleCount policy → judges (p .rule i) q (bit i opens) ≡ judges (p .rule i) q (openIn p rs q i)
+    unfolding openIn
+    judges-same i h = go (fits (p .rule i) q) refl
+      where
+        go : (t : Bool) → fits (p .rule i) q ≡ t → judges (p .rule i) q (bit i opens) ≡ judges (p .rule i) q (openIn p rs q i)
+        go true e = ap (judges (p .rule i) q) (scan .isOpen i (fits-bit fitting same i h ∙ e))
+        go false e = not-fitting i (bit i opens) e ∙ sym (not-fitting i (openIn p rs q i) e)
+
+    judging-same : judgingBy p q opens ≡ judgingIn p rs q
+    unfolding judgingBy judgingIn policyOf
+    judging-same = bits-same (ruleCount policy) _ _ judges-same
+
+    module _ (policy-bytes : OfBytes policy) (table-bytes : OfBytes table) (q-bytes : OfBytes q) where
+      qs : ℕ → List Request
+      qs i = counted q (pastIn p rs q i)
+
+      each : (i : ℕ) → Every OfBytes (qs i)
+      unfolding qs
+      each i = counted-bytes p table n q i table-bytes q-bytes
+
+      -- an exclusion of a rule that the request fits
+      roles-are : (i : ℕ) → bit i fitting ≡ true → (k : ℕ) → bit k (rolesTaken groups i g q) ≡ anyOf (λ r. bit k (roles r)) (qs i)
+      unfolding rolesTaken qs
+      roles-are i h k =
+          bit-or k (rolesIn groups i g) (roles q)
+          ∙ ap (λ (t : Bool). t || bit k (roles q)) (scan .allRoles i h k)
+          ∙ sym (any-counted p q rs i (λ r. bit k (roles r)))
+
+      times-are : (i : ℕ) → bit i fitting ≡ true → (d : ℕ) → timesIn groups i d g + cond (eqb (doneWord q) d) 1 0 ≡ length (keep (λ r. eqb (doneWord r) d) (qs i))
+      unfolding qs
+      times-are i h d =
+          ap (λ (k : ℕ). k + cond (eqb (doneWord q) d) 1 0) (scan .allTimes i h d)
+          ∙ sym (count-counted p q rs i (λ r. eqb (doneWord r) d))
+
+      reached-same :
+          (i : ℕ) → i < ruleCount policy → bit i fitting ≡ true → (e : ℕ) → e < byteAt (block policy i) 9
+          → reachedIn (block policy i) e i (rolesTaken groups i g q) groups g q ≡ reached (exclusionAt (block policy i) e) (qs i)
+      unfolding reachedIn reached
+      reached-same i h f e l =
+          ap (leb (exclusionAt (block policy i) e .m))
+          (tally-same (block policy i) e (qs i) i (rolesTaken groups i g q) groups g q (part-bytes policy (512 * i) 512 policy-bytes) (each i)
+          (n-most (exclusionAt (block policy i) e) (exclusion-fits policy accepted i h e l)) (roles-are i f) (times-are i f))
+
+      -- a rule that the request fits, and any rule
+      rule-same :
+          (i : ℕ) → i < ruleCount policy → bit i fitting ≡ true → ruleFails (block policy i) i groups g q ≡ failing i (p .rule i) q (pastIn p rs q i)
+      unfolding ruleFails failing failsIn policyOf ruleAt qs
+      rule-same i h f =
+          first-same _ _ 0 (byteAt (block policy i) 9)
+          (λ e lo hi. ap (λ (t : Bool). unless (not t) (refusal (exclusionNumber (exclusionAt (block policy i) e)) (i + 1) (e + 1))) (reached-same i h f e (omega arith)))
+
+      bit-judges : (mask : ℕ) → mask ≡ judgingBy p q opens → (i : ℕ) → i < ruleCount policy → bit i mask ≡ judges (p .rule i) q (openIn p rs q i)
+      unfolding judgingBy policyOf
+      bit-judges mask is i h = ap (bit i) is ∙ bit-bits (ruleCount policy) _ i h ∙ judges-same i h
+
+      row-same : (mask : ℕ) → mask ≡ judgingBy p q opens → (i : ℕ) → i < ruleCount policy → maskFails policy mask groups g q i ≡ row i
+      unfolding maskFails row
+      row-same mask is i h = go (judges (p .rule i) q (openIn p rs q i)) refl
+        where
+          here : bit i mask ≡ judges (p .rule i) q (openIn p rs q i)
+          here = bit-judges mask is i h
+
+          go :
+              (t : Bool) → judges (p .rule i) q (openIn p rs q i) ≡ t
+              → cond (bit i mask) (ruleFails (block policy i) i groups g q) none ≡ cond (judges (p .rule i) q (openIn p rs q i)) (failing i (p .rule i) q (pastIn p rs q i)) none
+          go true e = rw (here, e) (rule-same i h (fits-bit fitting same i h ∙ judging-fits i (openIn p rs q i) e))
+          go false e = rw (here, e)
+
+      -- what the search found
+      pub verdict-found :
+          (mask rules : ℕ) (found : Option Refusal) → permitted (policyOf policy) q ≡ true → mask ≡ judgingBy (policyOf policy) q opens → rules ≡ ruleCount policy
+          → found ≡ first (maskFails policy mask groups g q) 0 rules → VerdictIs (policyOf policy) (recordsHere table n) q found mask
+      verdict-found mask rules found granted is count search-found =
+          record {
+            faults =
+                search-found
+                ∙ ap (first (maskFails policy mask groups g q) 0) count
+                ∙ first-same (maskFails policy mask groups g q) row 0 (ruleCount policy) (λ i lo hi. row-same mask is i (omega arith))
+                ∙ sym (verdict-rows granted);
+            marks = λ h. is ∙ judging-same;
+          }

@@ -1,46 +1,82 @@
 -- What the values of the code stand for.
 -- Assumes nothing.
-use Prim.Native.Nat.{ℕ, _+_, _*_, _-_, _≤_, _<_, min}
+use Prim.Native.Nat.{ℕ, zero, suc, _+_, _*_, _-_, _≤_, _<_, min}
 use mathlib.Core.Path.{_≡_}
-use mathlib.Core.Bool.{Bool, cond, not, _&&_}
-use mathlib.Core.List.{List, [], _∷_, _++_, map}
+use mathlib.Core.Bool.{Bool, true, cond, not, _&&_, _||_}
+use mathlib.Core.List.{List, []}
 use mathlib.Core.Option.{Option, none, some}
-use lib.ListN.{length, getD, take}
+use lib.ListN.{length, getD}
 use lib.Bits.{bitOr}
-use lib.Dec.{eqb}
+use lib.Dec.{eqb, leb}
 use Rattle.words.specs.Lists.{tab, keep, anyOf, anyBelow, sumBelow}
 use Rattle.words.specs.First.{unless, first}
-use Rattle.words.specs.Bytes.{byteAt, u16At, u32At, part, bit, bits}
+use Rattle.words.specs.Bytes.{byteAt, u16At, u32At, bit, bits}
 use Rattle.format.specs.Answer.{Refusal, refusal}
-use Rattle.format.specs.Layout.{blockBytes, mostRules, tableBlocks, capacity, requestBytes, recordBytes, operationAt, permissionKind, highestRole}
+use Rattle.format.specs.Layout.{blockBytes, mostRules, tableBlocks, capacity, operationAt, permissionKind, highestRole}
 use Rattle.format.specs.Block.{blocks, block, kind}
-use Rattle.format.specs.Request.{Request, roles}
-use Rattle.format.specs.Rule.{exclusionAt, ruleAt}
-use Rattle.format.specs.Fits.{samePlace}
+use Rattle.format.specs.Request.{Request, user, roles}
+use Rattle.format.specs.Rule.{exclusionAt}
+use Rattle.format.specs.Fits.{fits}
 use Rattle.format.specs.Policy.{Policy, Permission, permissionAt, entries}
-use Rattle.format.specs.Table.{Record, marked}
-use Rattle.format.specs.Place.{recordFrom}
-use Rattle.judge.specs.Tally.{sameUser, reached, exclusionNumber}
+use Rattle.format.specs.Table.{Record}
+use Rattle.judge.specs.Tally.{sameUser, exclusionNumber}
 use Rattle.judge.specs.Verdict.{judges, verdict}
-use Rattle.judge.specs.NewTable.{openIn, pastIn}
+use Rattle.judge.specs.NewTable.{standsIn, openIn, pastIn}
 use Rattle.verdict.specs.declared.verdicts.Failing.{Failing}
 use Rattle.verdict.specs.declared.verdicts.Failing.the-variants.{Nowhere, At}
 
+-- ---- groups of records
+
+-- Records that step 3 counts for the same rules and that have the same active roles and the same privilege make a group, which is four numbers:
+-- the rules, rule i + 1 at bit i, the roles, operation and target in one, and how many records they are.
+abbrev pub sharedOf : List ℕ → ℕ → ℕ
+sharedOf groups j = getD groups (4 * j) 0
+
+abbrev pub rolesOf : List ℕ → ℕ → ℕ
+rolesOf groups j = getD groups (4 * j + 1) 0
+
+abbrev pub doneOf : List ℕ → ℕ → ℕ
+doneOf groups j = getD groups (4 * j + 2) 0
+
+abbrev pub timesOf : List ℕ → ℕ → ℕ
+timesOf groups j = getD groups (4 * j + 3) 0
+
+-- of the first g groups: all the roles of those that count for the rule of index i
+unfoldable pub rolesIn : List ℕ → ℕ → ℕ → ℕ
+rolesIn groups i zero = 0
+rolesIn groups i (suc g) = bitOr (rolesIn groups i g) (cond (bit i (sharedOf groups g)) (rolesOf groups g) 0)
+
+-- how often they did a privilege
+unfoldable pub timesIn : List ℕ → ℕ → ℕ → ℕ → ℕ
+timesIn groups i done g = sumBelow g (λ j. cond (eqb (doneOf groups j) done) (cond (bit i (sharedOf groups j)) (timesOf groups j) 0) 0)
+
+-- how many records all of them are
+unfoldable pub recordsIn : List ℕ → ℕ → ℕ
+recordsIn groups g = sumBelow g (timesOf groups)
+
+-- the list has g groups, of no more records than a table
+pub record GroupsFit (groups : List ℕ) (g : ℕ) : Type 0 where
+  pub room : 4 * g ≤ length groups
+  pub few : recordsIn groups g ≤ 1920
+
+-- group g is written, of one record, and those before it are as they were
+pub record Behind (shared roles done : ℕ) (old : List ℕ) (g : ℕ) (new : List ℕ) : Type 0 where
+  pub size : length new ≡ length old
+  pub same : (m : ℕ) → m < 4 * g → getD new m 0 ≡ getD old m 0
+  pub isShared : sharedOf new g ≡ shared
+  pub isRoles : rolesOf new g ≡ roles
+  pub isDone : doneOf new g ≡ done
+  pub once : timesOf new g ≡ 1
+
+-- a list of groups after one record more, or none if it is not one that counts
+pub record Grown (counts : Bool) (shared roles done : ℕ) (old : List ℕ) (g : ℕ) (new : List ℕ) (h : ℕ) : Type 0 where
+  pub size : length new ≡ length old
+  pub most : h ≤ g + 1
+  pub records : recordsIn new h ≤ recordsIn old g + 1
+  pub allRoles : (i k : ℕ) → bit k (rolesIn new i h) ≡ bit k (rolesIn old i g) || (bit i shared && (counts && bit k roles))
+  pub allTimes : (i d : ℕ) → timesIn new i d h ≡ timesIn old i d g + cond (bit i shared && (counts && eqb done d)) 1 0
+
 -- ---- the tally of an exclusion
-
--- the requests that stand at these bytes of a table
-unfoldable pub requestsAt : List ℕ → List ℕ → List Request
-requestsAt s places = map (λ at. part s at requestBytes) places
-
--- the first k entries of a run are bytes of a table at each of which a record begins
-pub record Places (table run : List ℕ) (k : ℕ) : Type 0 where
-  pub whole : length run ≡ 1920
-  pub few : k ≤ 1920
-  pub inside : (j : ℕ) → j < k → getD run j 0 + recordBytes ≤ length table
-
--- the requests at those bytes, and this one
-abbrev pub taken : List ℕ → List ℕ → ℕ → Request → List Request
-taken table run k q = requestsAt table (take k run) ++ (q ∷ [])
 
 -- a request's operation and target in one number, as their bytes stand, and so a member's of the exclusion e
 abbrev pub doneWord : Request → ℕ
@@ -52,22 +88,24 @@ memberWord b e i = u32At b (60 + 36 * e + 4 * i)
 unfoldable pub membersAt : List ℕ → ℕ → List ℕ
 membersAt b e = tab (memberWord b e) 0 8
 
--- all the active roles: those at hand, and those of the requests
-unfoldable pub allRoles : ℕ → List Request → ℕ
-allRoles r [] = r
-allRoles r (q ∷ qs) = allRoles (bitOr r (roles q)) qs
+-- all the active roles: those of the groups that count for the rule, and the request's
+unfoldable pub rolesTaken : List ℕ → ℕ → ℕ → Request → ℕ
+rolesTaken groups i g q = bitOr (rolesIn groups i g) (roles q)
 
 -- how many of an exclusion's member roles are among all the active roles
 unfoldable pub rolesAmong : List ℕ → ℕ → ℕ → ℕ → ℕ
 rolesAmong b e n all = sumBelow n (λ i. cond (bit (u16At b (60 + 36 * e + 4 * i) - 1) all) 1 0)
 
--- how often each of eight members was done
-unfoldable pub allDone : List ℕ → List Request → List ℕ
-allDone members qs = tab (λ j. length (keep (λ q. eqb (doneWord q) (getD members j 0)) qs)) 0 8
+-- the eight counts, with so many more where a member is the privilege done
+unfoldable pub addDone : List ℕ → ℕ → ℕ → List ℕ → List ℕ
+addDone members done times counts = tab (λ j. getD counts j 0 + cond (eqb done (getD members j 0)) times 0) 0 8
 
--- the eight counts, with one more where a member is the privilege done
-unfoldable pub addDone : List ℕ → ℕ → List ℕ → List ℕ
-addDone members done counts = tab (λ j. getD counts j 0 + cond (eqb done (getD members j 0)) 1 0) 0 8
+-- how often each of eight members was done: in the groups, and with the request
+unfoldable pub doneIn : List ℕ → List ℕ → ℕ → ℕ → List ℕ
+doneIn members groups i g = tab (λ j. timesIn groups i (getD members j 0) g) 0 8
+
+unfoldable pub doneTaken : List ℕ → List ℕ → ℕ → ℕ → Request → List ℕ
+doneTaken members groups i g q = addDone members (doneWord q) 1 (doneIn members groups i g)
 
 -- of the first n members, how many are member i; whether an earlier one is
 unfoldable pub listedWord : List ℕ → ℕ → ℕ → ℕ
@@ -82,6 +120,16 @@ memberCounts members n done i = cond (repeatsWord members i) 0 (min (listedWord 
 
 unfoldable pub membersCount : List ℕ → ℕ → List ℕ → ℕ
 membersCount members n done = sumBelow n (memberCounts members n done)
+
+-- the tally of exclusion e of the rule of index i, whose block is b, from all the active roles and from the groups and the request
+unfoldable pub tallyIn : List ℕ → ℕ → ℕ → ℕ → List ℕ → ℕ → Request → ℕ
+tallyIn b e i all groups g q =
+    cond (eqb (exclusionAt b e .kind) 1)
+    (rolesAmong b e (exclusionAt b e .n) all)
+    (membersCount (membersAt b e) (exclusionAt b e .n) (doneTaken (membersAt b e) groups i g q))
+
+unfoldable pub reachedIn : List ℕ → ℕ → ℕ → ℕ → List ℕ → ℕ → Request → Bool
+reachedIn b e i all groups g q = leb (exclusionAt b e .m) (tallyIn b e i all groups g q)
 
 -- ---- the verdict
 
@@ -106,48 +154,43 @@ pub record HasRoom (table : List ℕ) (n : ℕ) : Type 0 where
   pub most : blocks table ≤ tableBlocks
   pub few : n ≤ capacity (blocks table)
 
--- a record is marked for the rule of index i, in the request's run place: the rule by its block
-unfoldable pub standsAt : List ℕ → ℕ → Request → Record → Bool
-standsAt b i q r = marked i r && samePlace (ruleAt b) q (r .request)
+-- ---- step 2
 
--- the rule judges the request over these records
-unfoldable pub judgesOver : List ℕ → ℕ → Request → List Record → Bool
-judgesOver b i q rs = judges (ruleAt b) q (anyOf (standsAt b i q) rs)
+-- the rules of a policy that a request fits, rule i + 1 at bit i
+unfoldable pub fittingIn : Policy → Request → ℕ
+fittingIn p q = bits (p .rules) (λ i. fits (p .rule i) q)
 
--- the rules of a policy that judge, rule i + 1 at bit i
+-- those that judge it, where `opens` has the rules whose run place is open
+unfoldable pub judgingBy : Policy → Request → ℕ → ℕ
+judgingBy p q opens = bits (p .rules) (λ i. judges (p .rule i) q (bit i opens))
+
+-- those that judge it over these records
 unfoldable pub judgingIn : Policy → List Record → Request → ℕ
 judgingIn p rs q = bits (p .rules) (λ i. judges (p .rule i) q (openIn p rs q i))
 
--- the records at the first k places of a run
-abbrev pub recordsFrom : List ℕ → List ℕ → ℕ → List Record
-recordsFrom table run k = map (recordFrom table) (take k run)
+-- step 3 counts a record for the rule of index i, and the record's request passes a test
+unfoldable pub countsFor : Policy → Request → ℕ → (Request → Bool) → Record → Bool
+countsFor p q i test r = standsIn p q i r && (sameUser (user q) (r .request) && test (r .request))
 
--- those are these records
-pub record Holds (table run : List ℕ) (k : ℕ) (rs : List Record) : Type 0 where
-  pub places : Places table run k
-  pub records : recordsFrom table run k ≡ rs
-
--- a user's records
-unfoldable pub userRecords : ℕ → List Record → List Record
-userRecords u rs = keep (λ r. sameUser u (r .request)) rs
+-- what one pass over these records finds, for the rules of a mask: the open run places, and the groups
+pub record Scanned (p : Policy) (q : Request) (mask opens : ℕ) (groups : List ℕ) (g : ℕ) (rs : List Record) : Type 0 where
+  pub isOpen : (i : ℕ) → bit i mask ≡ true → bit i opens ≡ anyOf (standsIn p q i) rs
+  pub allRoles : (i : ℕ) → bit i mask ≡ true → (k : ℕ) → bit k (rolesIn groups i g) ≡ anyOf (countsFor p q i (λ r. bit k (roles r))) rs
+  pub allTimes : (i : ℕ) → bit i mask ≡ true → (d : ℕ) → timesIn groups i d g ≡ length (keep (countsFor p q i (λ r. eqb (doneWord r) d)) rs)
 
 -- ---- step 3
 
--- what an exclusion of the rule of index i counts, of one user's records: those in the run place, and the request
-unfoldable pub countedAt : List ℕ → ℕ → Request → List Record → List Request
-countedAt b i q rs = map (λ r. r .request) (keep (standsAt b i q) rs) ++ (q ∷ [])
-
--- exclusion e fails over these requests
-unfoldable pub failsAt : List ℕ → ℕ → List Request → ℕ → Option Refusal
-failsAt b i qs e =
-    unless (not (reached (exclusionAt b e) qs)) (refusal (exclusionNumber (exclusionAt b e)) (i + 1) (e + 1))
+-- exclusion e fails
+unfoldable pub failsIn : List ℕ → ℕ → ℕ → List ℕ → ℕ → Request → ℕ → Option Refusal
+failsIn b i all groups g q e =
+    unless (not (reachedIn b e i all groups g q)) (refusal (exclusionNumber (exclusionAt b e)) (i + 1) (e + 1))
 
 -- the first that fails of the rule, and of the rules that a mask has
-unfoldable pub ruleFails : List ℕ → ℕ → Request → List Record → Option Refusal
-ruleFails b i q rs = first (failsAt b i (countedAt b i q rs)) 0 (byteAt b 9)
+unfoldable pub ruleFails : List ℕ → ℕ → List ℕ → ℕ → Request → Option Refusal
+ruleFails b i groups g q = first (failsIn b i (rolesTaken groups i g q) groups g q) 0 (byteAt b 9)
 
-unfoldable pub maskFails : List ℕ → ℕ → Request → List Record → ℕ → Option Refusal
-maskFails policy mask q rs i = cond (bit i mask) (ruleFails (block policy i) i q rs) none
+unfoldable pub maskFails : List ℕ → ℕ → List ℕ → ℕ → Request → ℕ → Option Refusal
+maskFails policy mask groups g q i = cond (bit i mask) (ruleFails (block policy i) i groups g q) none
 
 -- what the search found, as a refusal: "32 for kind 1, 33 for kind 2", with rule and exclusion from 1
 abbrev pub failingOf : List ℕ → Failing → Option Refusal

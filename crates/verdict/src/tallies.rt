@@ -1,4 +1,4 @@
-// Step 3 of the judge: the tally of an exclusion takes in the records one by one, then the request.
+// Step 3 of the judge: the tally of an exclusion takes in the groups of records one by one, then the request.
 ghost use mathlib.Core.Path.{_≡_};
 ghost use mathlib.Core.Bool.{true, cond};
 ghost use Prim.Native.Nat.{ℕ, _+_, _-_, _*_, _<_, _≤_};
@@ -6,8 +6,7 @@ ghost use lib.ListN.{length, getD, replicate};
 ghost use lib.Bits.{bitOr};
 ghost use Rattle.words.specs.Bytes.{u16At, part, bit as bitOf};
 ghost use Rattle.format.specs.Rule.{exclusionAt, goodExclusion};
-ghost use Rattle.judge.specs.Tally.{tally as tallyOf, reached};
-ghost use Rattle.verdict.specs.Code.{Places, taken, doneWord, membersAt, allRoles, rolesAmong, allDone, addDone, listedWord, repeatsWord, memberCounts, membersCount};
+ghost use Rattle.verdict.specs.Code.{GroupsFit, doneWord, membersAt, rolesTaken, rolesAmong, addDone, doneTaken, listedWord, repeatsWord, memberCounts, membersCount, tallyIn, reachedIn};
 use format::number::Role;
 use table_check::request::roles;
 use words::field::bit;
@@ -24,11 +23,11 @@ pub struct Tally {
     pub done: [u32; 8],
 }
 
-// 1 for true: a count without a branch.
-pub fn one_if(b: bool) -> u32
-    ensures { λ r. ⌜ (r ≡ cond b 1 0) × (r ≤ 1) ⌝ }
+// The number, or 0: a count without a branch.
+pub fn number_if(b: bool, x: u32) -> u32
+    ensures { λ r. ⌜ (r ≡ cond b x 0) × (r ≤ x) ⌝ }
 {
-    if b { 1 } else { 0 }
+    if b { x } else { 0 }
 }
 
 // The role is among these: role k is bit k - 1.
@@ -50,7 +49,7 @@ impl Tally {
         }
     }
 
-    // One more record, or the request, by its active roles.
+    // One more group, or the request, by its active roles.
     pub fn add_roles(mut self, roles: u32) -> Self
         ensures { λ r. ⌜ (r .roles ≡ bitOr (self .roles) roles) × (r .done ≡ self .done) ⌝ }
     {
@@ -58,25 +57,18 @@ impl Tally {
         self
     }
 
-    // One more record, or the request, by its privilege.
-    pub fn add_privilege(mut self, members: &[u32; 8], done: Privilege) -> Self
-        requires { ⌜ (length (self .done) ≡ 8) × ((j : ℕ) → j < 8 → getD (self .done) j 0 < 65536) ⌝ }
-        ensures { λ r. ⌜ (r .roles ≡ self .roles) × (r .done ≡ addDone (now (members .entry)) (done .0) (self .done)) ⌝ }
+    // A group of so many records, or the request, by its privilege.
+    pub fn add_privilege(mut self, members: &[u32; 8], done: Privilege, times: u32) -> Self
+        requires { ⌜ (length (self .done) ≡ 8) × (times < 65536) × ((j : ℕ) → j < 8 → getD (self .done) j 0 < 65536) ⌝ }
+        ensures { λ r. ⌜ (r .roles ≡ self .roles) × (r .done ≡ addDone (now (members .entry)) (done .0) times (self .done)) ⌝ }
     {
         let mut counts = self.done;
         for j in 0..8usize {
-            counts[j] = counts[j] + one_if(done.0 == members[j]);
+            counts[j] = counts[j] + number_if(done.0 == members[j], times);
         }
         self.done = counts;
         self
     }
-}
-
-// A place of a run as an index.
-pub fn place(x: u16) -> usize
-    ensures { λ r. ⌜ r ≡ x ⌝ }
-{
-    x as usize
 }
 
 // The privilege of the request that stands at a byte.
@@ -99,30 +91,33 @@ fn members(b: &[u8], e: usize) -> [u32; 8]
     words
 }
 
-// Takes in the records, then the request, by their roles.
-fn take_roles(table: &[u8], run: &[u16; 1920], k: usize, q: &[u8]) -> Tally
-    requires { ⌜ Places (now table) (now run) k ⌝ }
-    requires { ⌜ length (now q) ≡ 28 ⌝ }
-    ensures { λ r. ⌜ r .roles ≡ allRoles 0 (taken (now (table .entry)) (now (run .entry)) k (now (q .entry))) ⌝ }
+// Takes in the groups that count for rule i, then the request, by their roles.
+pub fn take_roles(groups: &[u32], g: usize, i: u32, q: &[u8]) -> Tally
+    requires { ⌜ GroupsFit (now groups) g ⌝ }
+    requires { ⌜ (i < 32) × (length (now q) ≡ 28) ⌝ }
+    ensures { λ r. ⌜ r .roles ≡ rolesTaken (now (groups .entry)) i g (now (q .entry)) ⌝ }
 {
     let mut tally = Tally::new();
-    for i in 0..k {
-        tally = tally.add_roles(roles(table, place(run[i])));
+    for j in 0..g {
+        let shared = bit(groups[4 * j], i);
+        tally = tally.add_roles(number_if(shared, groups[4 * j + 1]));
     }
     tally.add_roles(roles(q, 0))
 }
 
-// Takes in the records, then the request, by their privileges.
-fn take_privileges(members: &[u32; 8], table: &[u8], run: &[u16; 1920], k: usize, q: &[u8]) -> Tally
-    requires { ⌜ Places (now table) (now run) k ⌝ }
-    requires { ⌜ length (now q) ≡ 28 ⌝ }
-    ensures { λ r. ⌜ r .done ≡ allDone (now (members .entry)) (taken (now (table .entry)) (now (run .entry)) k (now (q .entry))) ⌝ }
+// Takes in the groups that count for rule i, then the request, by their privileges.
+fn take_privileges(members: &[u32; 8], groups: &[u32], g: usize, i: u32, q: &[u8]) -> Tally
+    requires { ⌜ GroupsFit (now groups) g ⌝ }
+    requires { ⌜ (i < 32) × (length (now q) ≡ 28) ⌝ }
+    ensures { λ r. ⌜ r .done ≡ doneTaken (now (members .entry)) (now (groups .entry)) i g (now (q .entry)) ⌝ }
 {
     let mut tally = Tally::new();
-    for i in 0..k {
-        tally = tally.add_privilege(members, done_at(table, place(run[i])));
+    for j in 0..g {
+        let shared = bit(groups[4 * j], i);
+        let times = number_if(shared, groups[4 * j + 3]);
+        tally = tally.add_privilege(members, Privilege(groups[4 * j + 2]), times);
     }
-    tally.add_privilege(members, done_at(q, 0))
+    tally.add_privilege(members, done_at(q, 0), 1)
 }
 
 // How many of an exclusion's n member roles are among these.
@@ -134,7 +129,7 @@ fn count_roles(b: &[u8], e: usize, n: usize, roles: u32) -> u32
     let mut count = 0u32;
     for i in 0..n {
         let role = Role(u16_at(b, 60 + 36 * e + 4 * i));
-        count = count + one_if(has_role(roles, role));
+        count = count + number_if(has_role(roles, role), 1);
     }
     count
 }
@@ -158,7 +153,7 @@ fn times_listed(members: &[u32; 8], n: usize, i: usize) -> u32
 {
     let mut listed = 0u32;
     for j in 0..n {
-        listed = listed + one_if(members[j] == members[i]);
+        listed = listed + number_if(members[j] == members[i], 1);
     }
     listed
 }
@@ -191,30 +186,29 @@ fn count_privileges(members: &[u32; 8], n: usize, done: &[u32; 8]) -> u32
     count
 }
 
-// The tally of exclusion e over the records at the first k places of a run, plus this request.
-pub fn tally_of(b: &[u8], e: usize, table: &[u8], run: &[u16; 1920], k: usize, q: &[u8]) -> u32
+// The tally of exclusion e of rule i, whose block is b, over its groups and the request: `all` has all their active roles.
+fn tally_of(b: &[u8], e: usize, i: u32, all: u32, groups: &[u32], g: usize, q: &[u8]) -> u32
     requires { ⌜ (length (now b) ≡ 512) × (e < 8) × (goodExclusion (exclusionAt (now b) e) ≡ true) ⌝ }
-    requires { ⌜ Places (now table) (now run) k ⌝ }
-    requires { ⌜ length (now q) ≡ 28 ⌝ }
-    ensures { λ r. ⌜ r ≡ tallyOf (exclusionAt (now (b .entry)) e) (taken (now (table .entry)) (now (run .entry)) k (now (q .entry))) ⌝ }
+    requires { ⌜ GroupsFit (now groups) g ⌝ }
+    requires { ⌜ (i < 32) × (length (now q) ≡ 28) ⌝ }
+    ensures { λ r. ⌜ r ≡ tallyIn (now (b .entry)) e i all (now (groups .entry)) g (now (q .entry)) ⌝ }
 {
     let n = wide(b[58 + 36 * e]) as usize;
     if b[56 + 36 * e] == 1 {
-        let tally = take_roles(table, run, k, q);
-        return count_roles(b, e, n, tally.roles);
+        return count_roles(b, e, n, all);
     }
     let words = members(b, e);
-    let tally = take_privileges(&words, table, run, k, q);
+    let tally = take_privileges(&words, groups, g, i, q);
     let done = tally.done;
     count_privileges(&words, n, &done)
 }
 
 // The exclusion's m is reached.
-pub fn reaches(b: &[u8], e: usize, table: &[u8], run: &[u16; 1920], k: usize, q: &[u8]) -> bool
+pub fn reaches(b: &[u8], e: usize, i: u32, all: u32, groups: &[u32], g: usize, q: &[u8]) -> bool
     requires { ⌜ (length (now b) ≡ 512) × (e < 8) × (goodExclusion (exclusionAt (now b) e) ≡ true) ⌝ }
-    requires { ⌜ Places (now table) (now run) k ⌝ }
-    requires { ⌜ length (now q) ≡ 28 ⌝ }
-    ensures { λ r. ⌜ r ≡ reached (exclusionAt (now (b .entry)) e) (taken (now (table .entry)) (now (run .entry)) k (now (q .entry))) ⌝ }
+    requires { ⌜ GroupsFit (now groups) g ⌝ }
+    requires { ⌜ (i < 32) × (length (now q) ≡ 28) ⌝ }
+    ensures { λ r. ⌜ r ≡ reachedIn (now (b .entry)) e i all (now (groups .entry)) g (now (q .entry)) ⌝ }
 {
-    wide(b[57 + 36 * e]) <= tally_of(b, e, table, run, k, q)
+    wide(b[57 + 36 * e]) <= tally_of(b, e, i, all, groups, g, q)
 }

@@ -1,6 +1,7 @@
 // Step 3 of the judge, and steps 1 to 3 together.
 ghost use mathlib.Core.Path.{_≡_};
-ghost use mathlib.Core.Bool.{cond};
+ghost use mathlib.Core.Bool.{true, cond};
+ghost use Prim.Native.Nat.{_*_, _≤_};
 ghost use mathlib.Core.Option.{none};
 ghost use lib.ListN.{length};
 ghost use lib.Dec.{eqb};
@@ -8,15 +9,16 @@ ghost use Rattle.words.specs.First.{first};
 ghost use Rattle.format.specs.Policy.{policyFault, policyOf, ruleCount};
 ghost use Rattle.format.specs.Place.{recordsHere};
 ghost use Rattle.format.specs.Code.{faultOf};
-ghost use Rattle.verdict.specs.Code.{Places, HasRoom, recordsFrom, maskFails, failingOf, FoundIn, VerdictIs};
+ghost use Rattle.judge.specs.Verdict.{permitted as permittedBy};
+ghost use Rattle.verdict.specs.Code.{GroupsFit, HasRoom, fittingIn, maskFails, failingOf, FoundIn, VerdictIs};
+use crate::groups::scan;
 use crate::permits::permitted;
+use crate::rules::fitting;
 use crate::rules::judging;
-use crate::runs::mine;
-use crate::runs::run_of;
 use crate::tallies::reaches;
+use crate::tallies::take_roles;
 use format::answer::Fault;
 use format::answer::Refusal;
-use table_check::request::user;
 use words::field::bit;
 use words::field::wide;
 
@@ -26,22 +28,20 @@ pub enum Failing {
     At(u32, u32),
 }
 
-// The search through the rules that judge and the exclusions of each, over this user's records and the request.
+// The search through the rules that judge and the exclusions of each, over the groups of this user's records and the request.
 pub fn first_failing(
     policy: &[u8],
     rules: u32,
     judging: u32,
     q: &[u8],
-    table: &[u8],
-    mine: &[u16; 1920],
-    m: usize,
+    groups: &[u32],
+    g: usize,
 ) -> Failing
     requires { ⌜ (policyFault (now policy) ≡ none) × (rules ≡ ruleCount (now policy)) ⌝ }
     requires { ⌜ length (now q) ≡ 28 ⌝ }
-    requires { ⌜ Places (now table) (now mine) m ⌝ }
-    ensures { λ r. ⌜ (failingOf (now (policy .entry)) r ≡ first (maskFails (now (policy .entry)) judging (now (q .entry)) (recordsFrom (now (table .entry)) (now (mine .entry)) m)) 0 rules) × (FoundIn (now (policy .entry)) r) ⌝ }
+    requires { ⌜ GroupsFit (now groups) g ⌝ }
+    ensures { λ r. ⌜ (failingOf (now (policy .entry)) r ≡ first (maskFails (now (policy .entry)) judging (now (groups .entry)) g (now (q .entry))) 0 rules) × (FoundIn (now (policy .entry)) r) ⌝ }
 {
-    let mut run = [0u16; 1920];
     let mut i = 0u32;
     'rules: loop {
         if rules <= i {
@@ -53,11 +53,11 @@ pub fn first_failing(
         }
         let at = 512 * (i as usize);
         let b = &policy[at..at + 512];
-        let k = run_of(b, i, q, table, mine, m, &mut run);
+        let taken = take_roles(groups, g, i, q);
         let n = wide(b[9]);
         let mut e = 0u32;
         while e < n {
-            if reaches(b, e as usize, table, &run, k, q) {
+            if reaches(b, e as usize, i, taken.roles, groups, g, q) {
                 break 'rules Failing::At(i, e);
             }
             e += 1;
@@ -95,7 +95,52 @@ pub struct Verdict {
     pub judging: u32,
 }
 
-// Steps 1 to 3 over the n records of a table. A request that no rule judges is done after step 2.
+// Steps 2 and 3 of a request that fits these rules: one pass over the records, then the search.
+fn judged(
+    policy: &[u8],
+    rules: u32,
+    fitting: u32,
+    q: &[u8],
+    table: &[u8],
+    n: usize,
+    groups: &mut [u32],
+) -> Verdict
+    requires { ⌜ (policyFault (now policy) ≡ none) × (rules ≡ ruleCount (now policy)) × (fitting ≡ fittingIn (policyOf (now policy)) (now q)) ⌝ }
+    requires { ⌜ (length (now q) ≡ 28) × (4 * n ≤ length (now groups)) × (permittedBy (policyOf (now policy)) (now q) ≡ true) ⌝ }
+    requires { ⌜ HasRoom (now table) n ⌝ }
+    ensures { λ r. ⌜ VerdictIs (policyOf (now (policy .entry))) (recordsHere (now (table .entry)) n) (now (q .entry)) (faultOf (r .fault)) (r .judging) ⌝ }
+{
+    let found = scan(policy, rules, fitting, q, table, n, groups);
+    let mask = judging(policy, rules, q, fitting, found.opens);
+    let failing = first_failing(policy, rules, mask, q, groups, found.groups);
+    Verdict {
+        fault: fault_of(policy, failing),
+        judging: mask,
+    }
+}
+
+// The same with room for the groups: a table of few records does not pay for many.
+fn judged_few(policy: &[u8], rules: u32, fitting: u32, q: &[u8], table: &[u8], n: usize) -> Verdict
+    requires { ⌜ (policyFault (now policy) ≡ none) × (rules ≡ ruleCount (now policy)) × (fitting ≡ fittingIn (policyOf (now policy)) (now q)) ⌝ }
+    requires { ⌜ (length (now q) ≡ 28) × (n ≤ 60) × (permittedBy (policyOf (now policy)) (now q) ≡ true) ⌝ }
+    requires { ⌜ HasRoom (now table) n ⌝ }
+    ensures { λ r. ⌜ VerdictIs (policyOf (now (policy .entry))) (recordsHere (now (table .entry)) n) (now (q .entry)) (faultOf (r .fault)) (r .judging) ⌝ }
+{
+    let mut groups = [0u32; 240];
+    judged(policy, rules, fitting, q, table, n, &mut groups[0..240])
+}
+
+fn judged_many(policy: &[u8], rules: u32, fitting: u32, q: &[u8], table: &[u8], n: usize) -> Verdict
+    requires { ⌜ (policyFault (now policy) ≡ none) × (rules ≡ ruleCount (now policy)) × (fitting ≡ fittingIn (policyOf (now policy)) (now q)) ⌝ }
+    requires { ⌜ (length (now q) ≡ 28) × (permittedBy (policyOf (now policy)) (now q) ≡ true) ⌝ }
+    requires { ⌜ HasRoom (now table) n ⌝ }
+    ensures { λ r. ⌜ VerdictIs (policyOf (now (policy .entry))) (recordsHere (now (table .entry)) n) (now (q .entry)) (faultOf (r .fault)) (r .judging) ⌝ }
+{
+    let mut groups = [0u32; 7680];
+    judged(policy, rules, fitting, q, table, n, &mut groups[0..7680])
+}
+
+// Steps 1 to 3 over the n records of a table. A request that fits no rule is done after step 1.
 pub fn verdict_of(policy: &[u8], rules: u32, q: &[u8], table: &[u8], n: usize) -> Verdict
     requires { ⌜ (policyFault (now policy) ≡ none) × (rules ≡ ruleCount (now policy)) ⌝ }
     requires { ⌜ length (now q) ≡ 28 ⌝ }
@@ -112,18 +157,15 @@ pub fn verdict_of(policy: &[u8], rules: u32, q: &[u8], table: &[u8], n: usize) -
             judging: 0,
         };
     }
-    let mask = judging(policy, rules, q, table, n);
+    let mask = fitting(policy, rules, q);
     if mask == 0 {
         return Verdict {
             fault: Fault::Nothing,
             judging: 0,
         };
     }
-    let mut places = [0u16; 1920];
-    let m = mine(table, n, user(q, 0), &mut places);
-    let found = first_failing(policy, rules, mask, q, table, &places, m);
-    Verdict {
-        fault: fault_of(policy, found),
-        judging: mask,
+    if n <= 60 {
+        return judged_few(policy, rules, mask, q, table, n);
     }
+    judged_many(policy, rules, mask, q, table, n)
 }

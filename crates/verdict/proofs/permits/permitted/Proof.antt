@@ -1,7 +1,8 @@
 -- `verdict::permits::permitted` meets its contract: no block passed permits the request.
 -- Assumes nothing.
 use Rattle.verdict.proofs.Cut.{cut, length-block}
-use Rattle.verdict.proofs.AcceptedEntries.{policy-length, entries-fit}
+use Rattle.verdict.proofs.AcceptedEntries.{entries-fit}
+use Rattle.format.proofs.AcceptedPolicy.{policy-blocked}
 use Rattle.verdict.proofs.Permissions.{blockGrants, permits-hit, permits-more, permits-done}
 use Rattle.format.specs.Block.{blocks}
 use Rattle.words.specs.Lists.{anyBelow}
@@ -43,7 +44,7 @@ block-permits-requires c κs =
     let a = c .before .before .before .before .before .args in
     let p = c .before .before .before .before .before .pre in
     let l = c .before .before .loop in
-    let blocked = policy-length (a .policy .now) (p .0) in
+    let blocked = policy-blocked (a .policy .now) (p .0) in
     rw (cut (a .policy .now) (512 * l .k) 512)
     ((length-block (a .policy .now) (l .k) (omega arith), p .1), entries-fit (a .policy .now) (p .0) (l .k) (omega arith))
 

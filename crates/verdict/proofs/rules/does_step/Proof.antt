@@ -30,7 +30,7 @@ returns c =
     let done-at = c .before .before .done-at in
     let u32-at = c .before .u32-at in
     let whole = take-all 28 (a .q .now) (omega arith) in
-    ap (λ (t : Bool). eqb (byteAt (a .b .now) (a .flag)) 1 && t)
+    ap (λ (t : Bool). eqb (byteAt (a .b .now) (a .mark)) 1 && t)
     (ap₂ {C = Bool} eqb (done-at .ensures ∙ ap (λ (q : Request). doneWord q) whole) (u32-at .ensures)
     ∙ sym (does-word (a .b .now) (a .q .now) (a .at) (λ i. shared-slice-known .given i .fits) (λ i. shared-slice-known2 .given i .fits)))
 

@@ -39,8 +39,8 @@ has-role-requires : tie.Need-has-role-requires Inv-loop μ-loop
 has-role-requires c κs = let r = c .before .before .before .before .pre .1 (c .before .before .loop .i) (c .before .loop-test .taken) in
     omega (arith, r .0, r .1, c .u16-at .ensures .0)
 
-one-if-requires : tie.Need-one-if-requires Inv-loop μ-loop
-one-if-requires c κs = search needs
+number-if-requires : tie.Need-number-if-requires Inv-loop μ-loop
+number-if-requires c κs = search needs
 
 add-count : tie.Need-add-count Inv-loop μ-loop
 add-count c = search needs
@@ -55,8 +55,8 @@ loop-again : tie.Need-loop-again Inv-loop μ-loop
 unfolding rolesAmong
 loop-again c =
     let l = c .before .before .before .before .loop in
-    let one-if = c .one-if in
-    (omega arith, (sum-more _ (l .i) (l .count) (one-if .result) (l .inv .1 .0) (cc), omega arith))
+    let number-if = c .number-if in
+    (omega arith, (sum-more _ (l .i) (l .count) (number-if .result) (l .inv .1 .0) (cc), omega arith))
 
 returns : tie.Need-returns Inv-loop μ-loop
 unfolding rolesAmong
@@ -75,7 +75,7 @@ count-roles-spec =
     add-u16-at-2
     u16-at-requires
     has-role-requires
-    one-if-requires
+    number-if-requires
     add-count
     add-i
     loop-less

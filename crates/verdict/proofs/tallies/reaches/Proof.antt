@@ -1,6 +1,6 @@
 -- `verdict::tallies::reaches` meets its contract.
 -- Assumes nothing.
-use Rattle.judge.specs.Tally.{reached}
+use Rattle.verdict.specs.Code.{reachedIn}
 use lib.Dec.{leb}
 use mathlib.Core.Bool.{Bool}
 use mathlib.Core.Path.{ap₂}
@@ -24,10 +24,19 @@ tally-of-requires : tie.Need-tally-of-requires
 tally-of-requires c κs = search needs
 
 returns : tie.Need-returns
-unfolding reached
-returns c = ap₂ {C = Bool} leb (c .before .wide .ensures .0) (c .tally-of .ensures)
+unfolding reachedIn
+returns c =
+    let wide = c .before .wide in
+    let tally-of = c .tally-of in
+    ap₂ {C = Bool} leb (wide .ensures .0) (tally-of .ensures)
 
 pub reaches-spec : {M : Type 1} → statement M
 reaches-spec =
     tie.close
-    (tie.spec mul-wide add-wide shared-slice-read-wide wide-requires tally-of-requires returns)
+    (tie.spec
+    mul-wide
+    add-wide
+    shared-slice-read-wide
+    wide-requires
+    tally-of-requires
+    returns)

@@ -1,8 +1,6 @@
 -- `verdict::tallies::tally_of` meets its contract.
 -- Assumes nothing.
 use Rattle.verdict.proofs.Exclusions.{n-most, role-range, tally-one, tally-two}
-use Rattle.verdict.proofs.Privileges.{taken-bytes}
-use Rattle.verdict.specs.Code.{taken}
 use Rattle.format.specs.Rule.{exclusionAt}
 use native.Mathlib.Omega.{arith}
 use borrow.Author.Needs.{needs}
@@ -33,28 +31,23 @@ add-if1 c = search needs
 shared-slice-read-if1 : tie.Need-shared-slice-read-if1
 shared-slice-read-if1 c = search needs
 
-take-roles-requires : tie.Need-take-roles-requires
-take-roles-requires c κs = search needs
-
 count-roles-requires : tie.Need-count-roles-requires
 count-roles-requires c κs =
-    let a = c .before .before .before .before .before .before .before .before .args in
-    let p = c .before .before .before .before .before .before .before .before .pre in
-    let wide = c .before .before .before .wide in
-    let if1 = c .before .if1 in
+    let p = c .before .before .before .before .before .before .before .pre in
+    let a = c .before .before .before .before .before .before .before .args in
+    let wide = c .before .before .wide in
+    let if1 = c .if1 in
     let x = exclusionAt (a .b .now) (a .e) in
     let n = wide .ensures .0 in
-    ((omega arith, omega arith, omega (arith, n-most x (p .0 .2))), λ i h. role-range x (p .0 .2) (if1 .taken) i (omega arith))
+    ((omega arith, omega arith, omega (arith, n-most x (p .0 .2))), λ j h. role-range x (p .0 .2) (if1 .taken) j (omega arith))
 
 returns : tie.Need-returns
 returns c =
-    let a = c .before .before .before .before .before .before .before .before .before .args in
-    let wide = c .before .before .before .before .wide in
-    let if1 = c .before .before .if1 in
-    let take-roles = c .before .take-roles in
+    let a = c .before .before .before .before .before .before .before .before .args in
+    let wide = c .before .before .before .wide in
+    let if1 = c .before .if1 in
     let count-roles = c .count-roles in
-    tally-one (a .b .now) (a .e) (taken (a .table .now) (a .run .now) (a .k) (a .q .now)) _ _ (wide .ensures .0)
-    (take-roles .result .roles) (if1 .taken) (take-roles .ensures) (count-roles .ensures)
+    tally-one (a .b .now) (a .e) (a .i) (a .all) (a .groups .now) (a .g) (a .q .now) _ _ (wide .ensures .0) (if1 .taken) (count-roles .ensures)
 
 members-requires : tie.Need-members-requires
 members-requires c κs = search needs
@@ -64,26 +57,20 @@ take-privileges-requires c κs = search needs
 
 count-privileges-requires : tie.Need-count-privileges-requires
 count-privileges-requires c κs =
-    let a = c .before .before .before .before .before .before .before .before .before .before .before .before .before .args in
     let p = c .before .before .before .before .before .before .before .before .before .before .before .before .before .pre in
+    let a = c .before .before .before .before .before .before .before .before .before .before .before .before .before .args in
     let wide = c .before .before .before .before .before .before .before .before .wide in
     omega (arith, wide .ensures .0, n-most (exclusionAt (a .b .now) (a .e)) (p .0 .2))
 
 returns-2 : tie.Need-returns-2
 returns-2 c =
     let a = c .before .before .before .before .before .before .before .before .before .before .before .before .before .before .args in
-    let p = c .before .before .before .before .before .before .before .before .before .before .before .before .before .before .pre in
-    let shared-slice-known = c .before .before .before .before .before .before .before .before .before .before .before .before .before .shared-slice-known in
-    let shared-slice-known2 = c .before .before .before .before .before .before .before .before .before .before .before .before .shared-slice-known2 in
-    let shared-slice-known3 = c .before .before .before .before .before .before .before .before .before .before .before .shared-slice-known3 in
     let wide = c .before .before .before .before .before .before .before .before .before .wide in
     let if1 = c .before .before .before .before .before .before .before .if1 in
     let members = c .before .before .before .before .before .before .members in
     let take-privileges = c .before .before .before .before .take-privileges in
     let count-privileges = c .count-privileges in
-    let each = taken-bytes (a .table .now) (a .run .now) (a .k) (a .q .now) (λ i. shared-slice-known2 .given i .fits) (λ i. shared-slice-known3 .given i .fits) in
-    tally-two (a .b .now) (a .e) (taken (a .table .now) (a .run .now) (a .k) (a .q .now)) _ _ (wide .ensures .0) (members .result) (take-privileges .result .done) (if1 .left) (λ i. shared-slice-known .given i .fits) each
-    (omega (arith, wide .ensures .0, n-most (exclusionAt (a .b .now) (a .e)) (p .0 .2))) (members .ensures) (take-privileges .ensures) (count-privileges .ensures)
+    tally-two (a .b .now) (a .e) (a .i) (a .all) (a .groups .now) (a .g) (a .q .now) _ _ (wide .ensures .0) (members .result) (take-privileges .result .done) (if1 .left) (members .ensures) (take-privileges .ensures) (count-privileges .ensures)
 
 pub tally-of-spec : {M : Type 1} → statement M
 tally-of-spec =
@@ -97,7 +84,6 @@ tally-of-spec =
     mul-if1
     add-if1
     shared-slice-read-if1
-    take-roles-requires
     count-roles-requires
     returns
     members-requires

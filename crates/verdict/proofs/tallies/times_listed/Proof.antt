@@ -23,20 +23,20 @@ loop-holds : tie.Need-loop-holds Inv-loop μ-loop
 unfolding sumBelow
 loop-holds c = (omega arith, (refl, omega arith))
 
-mul-one-if : tie.Need-mul-one-if Inv-loop μ-loop
-mul-one-if c = search needs
+mul-number-if : tie.Need-mul-number-if Inv-loop μ-loop
+mul-number-if c = search needs
 
-element-copy-out-one-if : tie.Need-element-copy-out-one-if Inv-loop μ-loop
-element-copy-out-one-if c = search needs
+element-copy-out-number-if : tie.Need-element-copy-out-number-if Inv-loop μ-loop
+element-copy-out-number-if c = search needs
 
-mul-one-if-2 : tie.Need-mul-one-if-2 Inv-loop μ-loop
-mul-one-if-2 c = search needs
+mul-number-if-2 : tie.Need-mul-number-if-2 Inv-loop μ-loop
+mul-number-if-2 c = search needs
 
-element-copy-out-one-if-2 : tie.Need-element-copy-out-one-if-2 Inv-loop μ-loop
-element-copy-out-one-if-2 c = search needs
+element-copy-out-number-if-2 : tie.Need-element-copy-out-number-if-2 Inv-loop μ-loop
+element-copy-out-number-if-2 c = search needs
 
-one-if-requires : tie.Need-one-if-requires Inv-loop μ-loop
-one-if-requires c κs = search needs
+number-if-requires : tie.Need-number-if-requires Inv-loop μ-loop
+number-if-requires c κs = search needs
 
 add-listed : tie.Need-add-listed Inv-loop μ-loop
 add-listed c = search needs
@@ -50,8 +50,8 @@ loop-less c = search needs
 loop-again : tie.Need-loop-again Inv-loop μ-loop
 loop-again c =
     let l = c .before .before .before .before .loop in
-    let one-if = c .one-if in
-    (omega arith, (sum-more _ (l .j) (l .listed) (one-if .result) (l .inv .1 .0) (one-if .ensures .0), omega arith))
+    let number-if = c .number-if in
+    (omega arith, (sum-more _ (l .j) (l .listed) (number-if .result) (l .inv .1 .0) (number-if .ensures .0), omega arith))
 
 returns : tie.Need-returns Inv-loop μ-loop
 unfolding listedWord
@@ -64,11 +64,11 @@ times-listed-spec =
     Inv-loop
     μ-loop
     loop-holds
-    mul-one-if
-    element-copy-out-one-if
-    mul-one-if-2
-    element-copy-out-one-if-2
-    one-if-requires
+    mul-number-if
+    element-copy-out-number-if
+    mul-number-if-2
+    element-copy-out-number-if-2
+    number-if-requires
     add-listed
     add-j
     loop-less

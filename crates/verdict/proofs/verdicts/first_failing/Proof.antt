@@ -3,15 +3,13 @@
 use Rattle.format.specs.Policy.{ruleCount}
 use Rattle.verdict.proofs.Searching.{rule-silent, rule-judges, exclusion-fails, exclusion-passes, exclusion-ready}
 use Rattle.verdict.proofs.Nested.{left, row-hit, row-more, row-done}
-use Rattle.verdict.proofs.AcceptedEntries.{rule-inside, rule-fits}
 use Rattle.verdict.proofs.Cut.{cut}
-use Rattle.verdict.specs.Code.{taken, recordsFrom, failsAt, maskFails}
-use Rattle.format.proofs.AcceptedPolicy.{rules-most}
+use Rattle.verdict.specs.Code.{failsIn, maskFails}
+use Rattle.format.proofs.AcceptedPolicy.{rules-most, rule-inside}
 use Rattle.format.specs.Request.{Request}
 use Rattle.format.specs.Answer.{Refusal}
 use Rattle.words.proofs.First.{first-start, first-done}
 use Rattle.words.specs.First.{first}
-use lib.ListN.{length, length-replicate}
 use borrow.Author.Tests.{not-true, not-false}
 use mathlib.Core.Option.{Option}
 use mathlib.Core.List.{List}
@@ -23,32 +21,33 @@ use Rattle.verdict.proofs.verdicts.first_failing.Statement.{statement}
 use Rattle.verdict.proofs.verdicts.first_failing.Tie as tie
 
 -- what each rule finds, and what the search has to
-abbrev rows : List ℕ → ℕ → Request → List ℕ → List ℕ → ℕ → ℕ → Option Refusal
-rows policy judging q table mine m = maskFails policy judging q (recordsFrom table mine m)
+abbrev rows : List ℕ → ℕ → List ℕ → ℕ → Request → ℕ → Option Refusal
+rows policy judging groups g q = maskFails policy judging groups g q
 
-abbrev whole : List ℕ → ℕ → ℕ → Request → List ℕ → List ℕ → ℕ → Option Refusal
-whole policy rules judging q table mine m = first (rows policy judging q table mine m) 0 rules
+abbrev whole : List ℕ → ℕ → ℕ → Request → List ℕ → ℕ → Option Refusal
+whole policy rules judging q groups g = first (rows policy judging groups g q) 0 rules
 
 abbrev Inv-loop : tie.InvT-loop
-Inv-loop policy rules judging q table mine m run i at b k n e₀ e = (e ≤ n) × (left (rows policy judging q table mine m) (failsAt b i (taken table run k q)) i rules e n ≡ whole policy rules judging q table mine m)
+Inv-loop policy rules judging q groups g i at b taken n e₀ e =
+    (e ≤ n) × (left (rows policy judging groups g q) (failsIn b i (taken .roles) groups g q) i rules e n ≡ whole policy rules judging q groups g)
 
 abbrev μ-loop : tie.MeasureT-loop
-μ-loop policy rules judging q table mine m run i at b k n e₀ e = n - e
+μ-loop policy rules judging q groups g i at b taken n e₀ e = n - e
 
 abbrev Inv-rules : tie.InvT-rules
-Inv-rules policy rules judging q table mine m run₀ i₀ run i =
-    (i ≤ rules) × ((length run ≡ 1920) × (first (rows policy judging q table mine m) i (rules - i) ≡ whole policy rules judging q table mine m))
+Inv-rules policy rules judging q groups g i₀ i = (i ≤ rules) × (first (rows policy judging groups g q) i (rules - i) ≡ whole policy rules judging q groups g)
 
 abbrev μ-rules : tie.MeasureT-rules
-μ-rules policy rules judging q table mine m run₀ i₀ run i = rules - i
+μ-rules policy rules judging q groups g i₀ i = rules - i
 
 rules-holds : tie.Need-rules-holds Inv-loop μ-loop Inv-rules μ-rules
-rules-holds c = (omega arith, (length-replicate {A = ℕ} 1920 0, first-start _ _))
+rules-holds c =
+    (omega arith, first-start _ _)
 
 bit-requires : tie.Need-bit-requires Inv-loop μ-loop Inv-rules μ-rules
 bit-requires c κs =
-    let a = c .before .before .before .before .before .args in
     let p = c .before .before .before .before .before .pre in
+    let a = c .before .before .before .before .before .args in
     omega (arith, rules-most (a .policy .now) (p .0 .0))
 
 add-i : tie.Need-add-i Inv-loop μ-loop Inv-rules μ-rules
@@ -64,22 +63,22 @@ rules-again c =
     let bit = c .before .bit in
     let if2 = c .if2 in
     let no = sym (bit .ensures) ∙ not-true (bit .result) (if2 .taken) in
-    (omega arith, (rules .inv .1 .0, rule-silent (a .policy .now) (a .judging) (a .q .now) (recordsFrom (a .table .now) (a .mine .now) (a .m)) (rules .i) (a .rules) (rules .inv .1 .1) (omega arith) no))
+    (omega arith, rule-silent (a .policy .now) (a .judging) (a .groups .now) (a .g) (a .q .now) (rules .i) (a .rules) (rules .inv .1) (omega arith) no)
 
 cast-at : tie.Need-cast-at Inv-loop μ-loop Inv-rules μ-rules
 cast-at c = search needs
 
 mul-at : tie.Need-mul-at Inv-loop μ-loop Inv-rules μ-rules
 mul-at c =
-    let a = c .before .before .before .before .before .before .before .args in
     let p = c .before .before .before .before .before .before .before .pre in
+    let a = c .before .before .before .before .before .before .before .args in
     let rules = c .before .before .before .rules in
     omega (arith, rule-inside (a .policy .now) (p .0 .0) (rules .i) (omega arith))
 
 add-b : tie.Need-add-b Inv-loop μ-loop Inv-rules μ-rules
 add-b c =
-    let a = c .before .before .before .before .before .before .before .args in
     let p = c .before .before .before .before .before .before .before .pre in
+    let a = c .before .before .before .before .before .before .before .args in
     let rules = c .before .before .before .rules in
     omega (arith, rule-inside (a .policy .now) (p .0 .0) (rules .i) (omega arith))
 
@@ -91,18 +90,16 @@ part-b-start c = search needs
 
 part-b-end : tie.Need-part-b-end Inv-loop μ-loop Inv-rules μ-rules
 part-b-end c =
-    let a = c .before .before .before .before .before .before .before .args in
     let p = c .before .before .before .before .before .before .before .pre in
+    let a = c .before .before .before .before .before .before .before .args in
     let rules = c .before .before .before .rules in
     omega (arith, rule-inside (a .policy .now) (p .0 .0) (rules .i) (omega arith))
 
-run-of-requires : tie.Need-run-of-requires Inv-loop μ-loop Inv-rules μ-rules
-run-of-requires c κs =
-    let a = c .before .before .before .before .before .before .before .before .before .args in
-    let p = c .before .before .before .before .before .before .before .before .before .pre in
-    let rules = c .before .before .before .before .before .rules in
-    rw (cut (a .policy .now) (512 * rules .i) 512)
-    (rule-fits (a .policy .now) (p .0 .0) (rules .i) (omega arith), ((omega (arith, rules-most (a .policy .now) (p .0 .0)), p .1 .0, rules .inv .1 .0), p .1 .1))
+take-roles-requires : tie.Need-take-roles-requires Inv-loop μ-loop Inv-rules μ-rules
+take-roles-requires c κs =
+    let p = c .before .before .before .before .before .before .before .before .pre in
+    let a = c .before .before .before .before .before .before .before .before .args in
+    (p .1 .1, (omega (arith, rules-most (a .policy .now) (p .0 .0)), p .1 .0))
 
 shared-slice-read-wide : tie.Need-shared-slice-read-wide Inv-loop μ-loop Inv-rules μ-rules
 shared-slice-read-wide c = search needs
@@ -112,28 +109,27 @@ wide-requires c κs = search needs
 
 loop-holds : tie.Need-loop-holds Inv-loop μ-loop Inv-rules μ-rules
 loop-holds c =
-    let a = c .before .before .before .before .before .before .before .before .before .before .before .before .args in
-    let rules = c .before .before .before .before .before .before .before .before .rules in
-    let bit = c .before .before .before .before .before .before .bit in
-    let if2 = c .before .before .before .before .before .if2 in
-    let run-of = c .before .before .run-of in
+    let a = c .before .before .before .before .before .before .before .before .before .before .before .args in
+    let rules = c .before .before .before .before .before .before .before .rules in
+    let bit = c .before .before .before .before .before .bit in
+    let if2 = c .before .before .before .before .if2 in
+    let take-roles = c .before .before .take-roles in
     let wide = c .wide in
     let yes = sym (bit .ensures) ∙ not-false (bit .result) (if2 .left) in
-    (omega arith, rule-judges (a .policy .now) (a .judging) (a .q .now) (recordsFrom (a .table .now) (a .mine .now) (a .m)) (rules .i) (a .rules) (rules .inv .1 .1) (omega arith) (a .table .now) (run-of .last .1 .1 .1 .1 .1 .1 .0) (run-of .result) (wide .result) _ yes (cut (a .policy .now) (512 * rules .i) 512) (wide .ensures .0) (run-of .ensures .1))
+    (omega arith, rule-judges (a .policy .now) (a .judging) (a .groups .now) (a .g) (a .q .now) (rules .i) (a .rules) (rules .inv .1) (omega arith) (take-roles .result .roles) (wide .result) _ yes (cut (a .policy .now) (512 * rules .i) 512) (wide .ensures .0) (take-roles .ensures))
 
 cast-reaches : tie.Need-cast-reaches Inv-loop μ-loop Inv-rules μ-rules
 cast-reaches c = search needs
 
 reaches-requires : tie.Need-reaches-requires Inv-loop μ-loop Inv-rules μ-rules
 reaches-requires c κs =
-    let a = c .before .before .before .before .before .before .before .before .before .before .before .before .before .before .before .args in
-    let p = c .before .before .before .before .before .before .before .before .before .before .before .before .before .before .before .pre in
-    let rules = c .before .before .before .before .before .before .before .before .before .before .before .rules in
-    let run-of = c .before .before .before .before .before .run-of in
-    let wide = c .before .before .before .wide in
-    let l = c .before .before .loop in
-    let loop-test = c .before .loop-test in
-    (exclusion-ready (a .policy .now) _ (rules .i) (l .e) (wide .result) (p .0 .0) (omega arith) (cut (a .policy .now) (512 * rules .i) 512) (wide .ensures .0) (loop-test .taken), (run-of .ensures .1 .places, p .1 .0))
+    let p = c .before .before .before .before .before .before .before .before .before .before .before .before .before .pre in
+    let a = c .before .before .before .before .before .before .before .before .before .before .before .before .before .args in
+    let rules = c .before .before .before .before .before .before .before .before .before .rules in
+    let wide = c .before .before .wide in
+    let l = c .before .loop in
+    let loop-test = c .loop-test in
+    (exclusion-ready (a .policy .now) _ (rules .i) (l .e) (wide .result) (p .0 .0) (omega arith) (cut (a .policy .now) (512 * rules .i) 512) (wide .ensures .0) (loop-test .taken), (p .1 .1, (omega (arith, rules-most (a .policy .now) (p .0 .0)), p .1 .0)))
 
 add-e : tie.Need-add-e Inv-loop μ-loop Inv-rules μ-rules
 add-e c = search needs
@@ -143,15 +139,15 @@ loop-less c = search needs
 
 loop-again : tie.Need-loop-again Inv-loop μ-loop Inv-rules μ-rules
 loop-again c =
-    let a = c .before .before .before .before .before .before .before .before .before .before .before .before .before .before .before .before .before .args in
-    let rules = c .before .before .before .before .before .before .before .before .before .before .before .before .before .rules in
-    let run-of = c .before .before .before .before .before .before .before .run-of in
-    let wide = c .before .before .before .before .before .wide in
-    let l = c .before .before .before .before .loop in
-    let loop-test = c .before .before .before .loop-test in
+    let a = c .before .before .before .before .before .before .before .before .before .before .before .before .before .before .before .args in
+    let rules = c .before .before .before .before .before .before .before .before .before .before .before .rules in
+    let take-roles = c .before .before .before .before .before .before .take-roles in
+    let wide = c .before .before .before .before .wide in
+    let l = c .before .before .before .loop in
+    let loop-test = c .before .before .loop-test in
     let reaches = c .before .reaches in
     let if3 = c .if3 in
-    (omega arith, row-more (rows (a .policy .now) (a .judging) (a .q .now) (a .table .now) (a .mine .now) (a .m)) _ (rules .i) (a .rules) (l .e) (wide .result) (l .inv .1) (loop-test .taken) (exclusion-passes (a .policy .now) _ (rules .i) (l .e) (taken (a .table .now) (run-of .last .1 .1 .1 .1 .1 .1 .0) (run-of .result) (a .q .now)) (reaches .result) (reaches .ensures) (if3 .left)))
+    (omega arith, row-more (rows (a .policy .now) (a .judging) (a .groups .now) (a .g) (a .q .now)) _ (rules .i) (a .rules) (l .e) (wide .result) (l .inv .1) (loop-test .taken) (exclusion-passes (a .policy .now) _ (rules .i) (l .e) (take-roles .result .roles) (a .groups .now) (a .g) (a .q .now) (reaches .result) (reaches .ensures) (if3 .left)))
 
 add-i-2 : tie.Need-add-i-2 Inv-loop μ-loop Inv-rules μ-rules
 add-i-2 c = search needs
@@ -161,36 +157,35 @@ rules-less-2 c = search needs
 
 rules-again-2 : tie.Need-rules-again-2 Inv-loop μ-loop Inv-rules μ-rules
 rules-again-2 c =
-    let a = c .before .before .before .before .before .before .before .before .before .before .before .before .before .before .args in
-    let rules = c .before .before .before .before .before .before .before .before .before .before .rules in
-    let run-of = c .before .before .before .before .run-of in
+    let a = c .before .before .before .before .before .before .before .before .before .before .before .before .before .args in
+    let rules = c .before .before .before .before .before .before .before .before .before .rules in
     let wide = c .before .before .wide in
     let l = c .before .loop in
     let loop-test = c .loop-test in
-    (omega arith, (run-of .ensures .1 .places .whole, row-done (rows (a .policy .now) (a .judging) (a .q .now) (a .table .now) (a .mine .now) (a .m)) _ (rules .i) (a .rules) (l .e) (wide .result) (l .inv .1) (loop-test .left)))
+    (omega arith, row-done (rows (a .policy .now) (a .judging) (a .groups .now) (a .g) (a .q .now)) _ (rules .i) (a .rules) (l .e) (wide .result) (l .inv .1) (loop-test .left))
 
 returns : tie.Need-returns Inv-loop μ-loop Inv-rules μ-rules
 returns c =
     let a = c .before .before .before .before .before .args in
     let rules = c .before .rules in
     let if1 = c .if1 in
-    (first-done _ (rules .i) (a .rules) (rules .inv .1 .1) (if1 .taken), tt)
+    (first-done _ (rules .i) (a .rules) (rules .inv .1) (if1 .taken), tt)
 
 returns-2 : tie.Need-returns-2 Inv-loop μ-loop Inv-rules μ-rules
 returns-2 c =
-    let a = c .before .before .before .before .before .before .before .before .before .before .before .before .before .before .before .before .before .args in
-    let p = c .before .before .before .before .before .before .before .before .before .before .before .before .before .before .before .before .before .pre in
-    let rules = c .before .before .before .before .before .before .before .before .before .before .before .before .before .rules in
-    let if1 = c .before .before .before .before .before .before .before .before .before .before .before .before .if1 in
-    let run-of = c .before .before .before .before .before .before .before .run-of in
-    let wide = c .before .before .before .before .before .wide in
-    let l = c .before .before .before .before .loop in
-    let loop-test = c .before .before .before .loop-test in
+    let p = c .before .before .before .before .before .before .before .before .before .before .before .before .before .before .before .pre in
+    let a = c .before .before .before .before .before .before .before .before .before .before .before .before .before .before .before .args in
+    let rules = c .before .before .before .before .before .before .before .before .before .before .before .rules in
+    let if1 = c .before .before .before .before .before .before .before .before .before .before .if1 in
+    let take-roles = c .before .before .before .before .before .before .take-roles in
+    let wide = c .before .before .before .before .wide in
+    let l = c .before .before .before .loop in
+    let loop-test = c .before .before .loop-test in
     let reaches = c .before .reaches in
     let if3 = c .if3 in
     let below : rules .i < ruleCount (a .policy .now) = omega (arith, if1 .left, p .0 .1) in
     let ready = exclusion-ready (a .policy .now) _ (rules .i) (l .e) (wide .result) (p .0 .0) below (cut (a .policy .now) (512 * rules .i) 512) (wide .ensures .0) (loop-test .taken) in (
-      row-hit (rows (a .policy .now) (a .judging) (a .q .now) (a .table .now) (a .mine .now) (a .m)) _ (rules .i) (a .rules) (l .e) (wide .result) (l .inv .1) (loop-test .taken) (exclusion-fails (a .policy .now) _ (rules .i) (l .e) (taken (a .table .now) (run-of .last .1 .1 .1 .1 .1 .1 .0) (run-of .result) (a .q .now)) (reaches .result) (reaches .ensures) (if3 .taken) (cut (a .policy .now) (512 * rules .i) 512)),
+      row-hit (rows (a .policy .now) (a .judging) (a .groups .now) (a .g) (a .q .now)) _ (rules .i) (a .rules) (l .e) (wide .result) (l .inv .1) (loop-test .taken) (exclusion-fails (a .policy .now) _ (rules .i) (l .e) (take-roles .result .roles) (a .groups .now) (a .g) (a .q .now) (reaches .result) (reaches .ensures) (if3 .taken) (cut (a .policy .now) (512 * rules .i) 512)),
       (omega (arith, below, rules-most (a .policy .now) (p .0 .0)), ready .1, rule-inside (a .policy .now) (p .0 .0) (rules .i) below),
     )
 
@@ -213,7 +208,7 @@ first-failing-spec =
     sub-b
     part-b-start
     part-b-end
-    run-of-requires
+    take-roles-requires
     shared-slice-read-wide
     wide-requires
     loop-holds

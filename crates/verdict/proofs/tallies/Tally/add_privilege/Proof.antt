@@ -14,14 +14,14 @@ use Rattle.verdict.proofs.tallies.Tally.add_privilege.Statement.{statem
 use Rattle.verdict.proofs.tallies.Tally.add_privilege.Tie as tie
 
 -- count j afterwards
-abbrev next : List ℕ → ℕ → List ℕ → ℕ → ℕ
-next members done counts j = getD counts j 0 + cond (eqb done (getD members j 0)) 1 0
+abbrev next : List ℕ → ℕ → ℕ → List ℕ → ℕ → ℕ
+next members done times counts j = getD counts j 0 + cond (eqb done (getD members j 0)) times 0
 
 abbrev Inv-loop : tie.InvT-loop
-Inv-loop self members done counts₀ j₀ counts j = (j ≤ 8) × (counts ≡ filled (next members (done .0) (self .done)) (self .done) j)
+Inv-loop self members done times counts₀ j₀ counts j = (j ≤ 8) × (counts ≡ filled (next members (done .0) times (self .done)) (self .done) j)
 
 abbrev μ-loop : tie.MeasureT-loop
-μ-loop self members done counts₀ j₀ counts j = 8 - j
+μ-loop self members done times counts₀ j₀ counts j = 8 - j
 
 loop-holds : tie.Need-loop-holds Inv-loop μ-loop
 loop-holds c = (omega arith, filled-none _ _)
@@ -32,17 +32,17 @@ mul-counts c = search needs
 array-read-counts : tie.Need-array-read-counts Inv-loop μ-loop
 array-read-counts c = search needs
 
-mul-one-if : tie.Need-mul-one-if Inv-loop μ-loop
-mul-one-if c = search needs
+mul-number-if : tie.Need-mul-number-if Inv-loop μ-loop
+mul-number-if c = search needs
 
-element-copy-out-one-if : tie.Need-element-copy-out-one-if Inv-loop μ-loop
-element-copy-out-one-if c = search needs
+element-copy-out-number-if : tie.Need-element-copy-out-number-if Inv-loop μ-loop
+element-copy-out-number-if c = search needs
 
-one-if-requires : tie.Need-one-if-requires Inv-loop μ-loop
-one-if-requires c κs = search needs
+number-if-requires : tie.Need-number-if-requires Inv-loop μ-loop
+number-if-requires c κs = search needs
 
 -- the count that is read is as it was
-count-read : (c : tie.After-one-if Inv-loop μ-loop) →
+count-read : (c : tie.After-number-if Inv-loop μ-loop) →
     let l = c .before .before .before .before .loop in
     let s = c .before .before .before .before .before .before .args .self in
     getD (l .counts) (l .j) 0 ≡ getD (s .done) (l .j) 0
@@ -56,7 +56,7 @@ add-counts c =
     let l = c .before .before .before .before .loop in
     let s = c .before .before .before .before .before .before in
     let j : l .j < 8 = omega arith in
-    omega (arith, count-read c, s .pre .1 (l .j) j, c .one-if .ensures .1)
+    omega (arith, count-read c, s .pre .1, s .pre .2 (l .j) j, c .number-if .ensures .1)
 
 mul-counts-2 : tie.Need-mul-counts-2 Inv-loop μ-loop
 mul-counts-2 c = search needs
@@ -74,7 +74,7 @@ loop-again : tie.Need-loop-again Inv-loop μ-loop
 loop-again c =
     let l = c .before .before .before .before .loop in
     let s = c .before .before .before .before .before .before in
-    let v = ap₂ {C = ℕ} (λ x y. x + y) (count-read c) (c .one-if .ensures .0) in
+    let v = ap₂ {C = ℕ} (λ x y. x + y) (count-read c) (c .number-if .ensures .0) in
     (omega arith, filled-more _ (s .args .self .done) (l .counts) (l .j) _ (l .inv .1) v (omega (arith, s .pre .0)))
 
 returns : tie.Need-returns Inv-loop μ-loop
@@ -93,9 +93,9 @@ add-privilege-spec =
     loop-holds
     mul-counts
     array-read-counts
-    mul-one-if
-    element-copy-out-one-if
-    one-if-requires
+    mul-number-if
+    element-copy-out-number-if
+    number-if-requires
     add-counts
     mul-counts-2
     array-write-counts

@@ -1,12 +1,12 @@
--- `verdict::runs::same_user` meets its contract.
+-- `verdict::groups::same_user` meets its contract.
 -- Assumes nothing.
 use Rattle.judge.specs.Tally.{sameUser}
 use lib.Dec.{eqb}
 use Prim.Native.Nat.{ℕ}
 use mathlib.Core.Path.{ap}
 use borrow.Author.Needs.{needs}
-use Rattle.verdict.proofs.runs.same_user.Statement.{statement}
-use Rattle.verdict.proofs.runs.same_user.Tie as tie
+use Rattle.verdict.proofs.groups.same_user.Statement.{statement}
+use Rattle.verdict.proofs.groups.same_user.Tie as tie
 
 user-requires : tie.Need-user-requires
 user-requires c κs = search needs

@@ -1,0 +1,163 @@
+-- Groups of records: what they come to as one record more is taken in.
+-- Assumes nothing.
+use Prim.Native.Nat.{ℕ, zero, suc, _+_, _*_, _≤_, _<_}
+use native.Mathlib.Numerals.{add-one}
+use native.Mathlib.Nat.{add-zero}
+use native.Mathlib.Decide.{decLt}
+use native.Mathlib.Omega.{arith}
+use mathlib.Core.Path.{_≡_, refl, sym, ap, ap₂, _∙_}
+use mathlib.Core.Bool.{Bool, true, false, cond, _&&_, _||_}
+use mathlib.Core.List.{List}
+use lib.ListN.{length, getD, set, length-set}
+use lib.Seq.{getD-set-same, getD-set-other}
+use lib.Dec.{eqb}
+use Rattle.words.specs.Lists.{sumBelow}
+use Rattle.words.specs.Bytes.{bit}
+use Rattle.verdict.specs.Code.{sharedOf, doneOf, timesOf, rolesIn, timesIn, recordsIn, Behind, Grown}
+use Rattle.verdict.proofs.Sums.{sumBelow-same}
+use Rattle.words.proofs.Bits.{bit-none}
+use Rattle.words.proofs.BitLaws.{bit-or}
+
+-- ---- how many records
+
+module _ (groups : List ℕ) where
+  pub records-mono : (j g : ℕ) → j ≤ g → recordsIn groups j ≤ recordsIn groups g
+  unfolding recordsIn sumBelow
+  records-mono j zero h = let e : j ≡ 0 = omega arith in rw e (omega arith)
+  records-mono j (suc g) h = go (records-mono j g) (decLt g j)
+    where
+      go : (j ≤ g → sumBelow j (timesOf groups) ≤ sumBelow g (timesOf groups)) → Dec (g < j) → sumBelow j (timesOf groups) ≤ sumBelow g (timesOf groups) + timesOf groups g
+      go ih (yes l) = let e : j ≡ suc g = omega arith in rw e (omega arith)
+      go ih (no l) = let m = ih (omega arith) in omega arith
+
+  times-last : (j : ℕ) → timesOf groups j ≤ recordsIn groups (suc j)
+  unfolding recordsIn sumBelow
+  times-last j = omega arith
+
+  -- a group's records are among those of all
+  pub times-among : (j g : ℕ) → j < g → timesOf groups j ≤ recordsIn groups g
+  times-among j g h = omega (arith, records-mono (suc j) g h, times-last j)
+
+  -- and so are those that did a privilege
+  pub times-few : (i d g : ℕ) → timesIn groups i d g ≤ recordsIn groups g
+  unfolding timesIn recordsIn sumBelow
+  times-few i d zero = omega arith
+  times-few i d (suc g) = go (eqb (doneOf groups g) d) (bit i (sharedOf groups g)) (times-few i d g)
+    where
+      go :
+          (a b : Bool) → timesIn groups i d g ≤ recordsIn groups g
+          → timesIn groups i d g + cond a (cond b (timesOf groups g) 0) 0 ≤ recordsIn groups g + timesOf groups g
+      go true true h = omega arith
+      go true false h = omega arith
+      go false b h = omega arith
+
+-- ---- lists of groups that agree in the first g groups
+
+module _ (new old : List ℕ) (g : ℕ) (same : (m : ℕ) → m < 4 * g → getD new m 0 ≡ getD old m 0) where
+  roles-below : (i j : ℕ) → j ≤ g → rolesIn new i j ≡ rolesIn old i j
+  unfolding rolesIn
+  roles-below i zero h = refl
+  roles-below i (suc j) h = rw (roles-below i j (omega arith), same (4 * j) (omega arith), same (4 * j + 1) (omega arith))
+
+  times-below : (i d : ℕ) → timesIn new i d g ≡ timesIn old i d g
+  unfolding timesIn
+  times-below i d = sumBelow-same g _ _ (λ j h. rw (same (4 * j) (omega arith), same (4 * j + 2) (omega arith), same (4 * j + 3) (omega arith)))
+
+  records-below : recordsIn new g ≡ recordsIn old g
+  unfolding recordsIn
+  records-below = sumBelow-same g _ _ (λ j h. same (4 * j + 3) (omega arith))
+
+-- ---- a record more
+
+-- the four numbers of group g, written one by one
+pub behind-written :
+    (old : List ℕ) (g shared roles done : ℕ) → 4 * g + 4 ≤ length old
+    → Behind shared roles done old g (set (set (set (set old (4 * g) shared) (4 * g + 1) roles) (4 * g + 2) done) (4 * g + 3) 1)
+behind-written old g shared roles done h =
+    let one = set old (4 * g) shared in
+    let two = set one (4 * g + 1) roles in
+    let three = set two (4 * g + 2) done in
+    record {
+      size = simp length-set;
+      same =
+          λ m l.
+          getD-set-other three (4 * g + 3) m 1 0 (λ e. omega arith)
+          ∙ getD-set-other two (4 * g + 2) m done 0 (λ e. omega arith)
+          ∙ getD-set-other one (4 * g + 1) m roles 0 (λ e. omega arith)
+          ∙ getD-set-other old (4 * g) m shared 0 (λ e. omega arith);
+      isShared =
+          getD-set-other three (4 * g + 3) (4 * g) 1 0 (λ e. omega arith)
+          ∙ getD-set-other two (4 * g + 2) (4 * g) done 0 (λ e. omega arith)
+          ∙ getD-set-other one (4 * g + 1) (4 * g) roles 0 (λ e. omega arith)
+          ∙ getD-set-same old (4 * g) shared 0 (omega arith);
+      isRoles =
+          getD-set-other three (4 * g + 3) (4 * g + 1) 1 0 (λ e. omega arith)
+          ∙ getD-set-other two (4 * g + 2) (4 * g + 1) done 0 (λ e. omega arith)
+          ∙ getD-set-same one (4 * g + 1) roles 0 (simp length-set (omega arith));
+      isDone =
+          getD-set-other three (4 * g + 3) (4 * g + 2) 1 0 (λ e. omega arith)
+          ∙ getD-set-same two (4 * g + 2) done 0 (simp length-set (omega arith));
+      once = getD-set-same three (4 * g + 3) 1 0 (simp length-set (omega arith));
+    }
+
+-- a group of one record behind the others
+module _ (new old : List ℕ) (g shared roles done : ℕ) where
+  pub grown-behind : Behind shared roles done old g new → Grown true shared roles done old g new (g + 1)
+  unfolding rolesIn timesIn recordsIn sumBelow
+  grown-behind h =
+      record {
+        size = h .size;
+        most = omega arith;
+        records = rw (add-one g, h .once) (omega (arith, records-below new old g (h .same)));
+        allRoles =
+            λ i k.
+            rw (add-one g, h .isShared, h .isRoles)
+            (bit-or k (rolesIn new i g) (cond (bit i shared) roles 0)
+            ∙ ap₂ {C = Bool} _||_ (ap (bit k) (roles-below new old g (h .same) i g (omega arith))) (bits-if k (bit i shared)));
+        allTimes =
+            λ i d.
+            rw (add-one g, h .isShared, h .isDone, h .once)
+            (ap₂ {C = ℕ} _+_ (times-below new old g (h .same) i d) (one-if (eqb done d) (bit i shared)));
+      }
+    where
+      bits-if : (k : ℕ) (b : Bool) → bit k (cond b roles 0) ≡ b && (true && bit k roles)
+      bits-if k true = refl
+      bits-if k false = bit-none k
+
+      one-if : (a b : Bool) → _≡_ {A = ℕ} (cond a (cond b 1 0) 0) (cond (b && (true && a)) 1 0)
+      one-if true true = refl
+      one-if true false = refl
+      one-if false true = refl
+      one-if false false = refl
+
+-- none, where it counts for no rule, or is another user's
+module _ (old : List ℕ) (g shared roles done : ℕ) (counts : Bool) where
+  grown-not : ((i : ℕ) (x : Bool) → bit i shared && (counts && x) ≡ false) → Grown counts shared roles done old g old g
+  grown-not h =
+      record {
+        size = refl;
+        most = omega arith;
+        records = omega arith;
+        allRoles = λ i k. sym (rw (h i (bit k roles)) (or-false (bit k (rolesIn old i g))));
+        allTimes = λ i d. sym (rw (h i (eqb done d)) (add-zero (timesIn old i d g)));
+      }
+    where
+      or-false : (t : Bool) → t || false ≡ t
+      or-false true = refl
+      or-false false = refl
+
+  pub grown-no-rule : shared ≡ 0 → Grown counts shared roles done old g old g
+  grown-no-rule e = grown-not (λ i x. rw (e, bit-none i))
+
+  pub grown-other-user : counts ≡ false → Grown counts shared roles done old g old g
+  grown-other-user e = grown-not (λ i x. rw e (and-false (bit i shared)))
+    where
+      and-false : (t : Bool) → t && false ≡ false
+      and-false true = refl
+      and-false false = refl
+
+-- it counts: its roles and its privilege are these
+pub grown-mine :
+    (old new : List ℕ) (g h shared roles done x y : ℕ) (counts : Bool) → counts ≡ true → x ≡ roles → y ≡ done
+    → Grown true shared x y old g new h → Grown counts shared roles done old g new h
+grown-mine old new g h shared roles done x y counts e f d grown = rw (e, ← f, ← d) grown

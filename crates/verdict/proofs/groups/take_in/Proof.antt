@@ -1,0 +1,60 @@
+-- `verdict::groups::take_in` meets its contract: a record that does not count leaves the groups as they are.
+-- Assumes nothing.
+use Rattle.verdict.proofs.GroupLaws.{grown-no-rule, grown-other-user, grown-mine}
+use borrow.Author.Tests.{not-true, not-false}
+use mathlib.Core.Path.{sym, _∙_}
+use borrow.Author.Needs.{needs}
+use Rattle.verdict.proofs.groups.take_in.Statement.{statement}
+use Rattle.verdict.proofs.groups.take_in.Tie as tie
+
+returns : tie.Need-returns
+returns c =
+    let a = c .before .before .before .args in
+    let if1 = c .if1 in
+    grown-no-rule (a .groups .now) (a .g) (a .shared) _ _ _ (if1 .taken)
+
+same-user-requires : tie.Need-same-user-requires
+same-user-requires c κs = search needs
+
+returns-2 : tie.Need-returns-2
+returns-2 c =
+    let a = c .before .before .before .before .before .args in
+    let same-user = c .before .same-user in
+    let if2 = c .if2 in
+    grown-other-user (a .groups .now) (a .g) (a .shared) _ _ _ (sym (same-user .ensures) ∙ not-true (same-user .result) (if2 .taken))
+
+roles-requires : tie.Need-roles-requires
+roles-requires c κs = search needs
+
+done-at-requires : tie.Need-done-at-requires
+done-at-requires c κs = search needs
+
+add-requires : tie.Need-add-requires
+add-requires c κs = search needs
+
+same-length : tie.Need-same-length
+same-length c = search needs
+
+returns-3 : tie.Need-returns-3
+returns-3 c =
+    let a = c .before .before .before .before .before .before .before .before .before .before .before .args in
+    let same-user = c .before .before .before .before .before .before .before .same-user in
+    let if2 = c .before .before .before .before .before .before .if2 in
+    let roles = c .before .before .before .before .roles in
+    let done-at = c .before .before .before .done-at in
+    let add = c .before .before .add in
+    grown-mine (a .groups .now) _ (a .g) (add .result) (a .shared) _ _ (roles .result) (done-at .result .0) _
+    (sym (same-user .ensures) ∙ not-false (same-user .result) (if2 .left)) (roles .ensures) (done-at .ensures) (add .ensures)
+
+pub take-in-spec : {M : Type 1} → statement M
+take-in-spec =
+    tie.close
+    (tie.spec
+    returns
+    same-user-requires
+    returns-2
+    roles-requires
+    done-at-requires
+    add-requires
+    same-length
+    returns-3)
