@@ -12,4 +12,5 @@ pub mod Parts
 pub mod Zeros
 pub mod Bits
 pub mod Halves
+pub mod Lowest
 pub mod Sums

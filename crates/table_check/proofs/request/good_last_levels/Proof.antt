@@ -1,6 +1,6 @@
 -- `table_check::request::good_last_levels` meets its contract.
 -- Assumes nothing.
-use mathlib.Core.Path.{_≡_, sym, _∙_}
+use mathlib.Core.Path.{sym, _∙_}
 use borrow.Author.Tests.{not-true, not-false}
 use borrow.Author.Needs.{needs}
 use Rattle.table_check.proofs.RequestWords.{last-none, last-half, last-one}
