@@ -4,7 +4,7 @@ use Prim.Native.Nat.{ℕ, _+_, _*_, _/_, _%_, _<_}
 use native.Mathlib.Nat.{add-zero, add-assoc}
 use native.Mathlib.Omega.{arith}
 use mathlib.Core.Path.{_≡_, refl, sym, ap, _∙_}
-use mathlib.Core.Bool.{Bool, true, false, not, cond, _&&_, and-assoc, and-true}
+use mathlib.Core.Bool.{Bool, true, false, not, cond, _&&_, _||_, and-assoc, and-true}
 use mathlib.Core.List.{List}
 use lib.ListN.{getD}
 use lib.Dec.{eqb}
@@ -14,7 +14,7 @@ use Rattle.words.specs.Bytes.{u16At, u32At, part}
 use Rattle.words.proofs.Bytes.{Byte}
 use Rattle.words.proofs.Parts.{part-part, u16At-part, u32At-part}
 use Rattle.format.specs.Request.{user, contextOf, levelType, levelValue, usedLevel, blankLevel, depthOf, goodContext, goodRequest}
-use Rattle.table_check.specs.RequestWords.{usedWord, goodLevelWords, usedWords}
+use Rattle.table_check.specs.RequestWords.{usedWord, goodLastWords, goodLevelWords, usedWords}
 
 -- ---- a word is two fields
 
@@ -74,6 +74,55 @@ module _ (s : List ℕ) (bytes : (i : ℕ) → Byte (getD s i 0)) where
   depth-words at =
       rw (used-level at 0 (omega arith), used-level at 1 (omega arith), used-level at 2 (omega arith), used-level at 3 (omega arith))
       (rw (add-zero at) (ap (λ (x : ℕ). x + cond (usedWord (u32At s (at + 4))) 1 0 + cond (usedWord (u32At s (at + 8))) 1 0 + cond (usedWord (u32At s (at + 12))) 1 0) (omega arith)))
+
+-- ---- the four words of a context, word by word: a zero one, or one that is neither zero nor used, decides
+
+not-used : usedWord 0 ≡ false
+unfolding usedWord
+not-used = refl
+
+or-true : (a : Bool) → a || true ≡ true
+or-true true = refl
+or-true false = refl
+
+or-none : (a b : Bool) → a || (b && false) ≡ a
+or-none true b = refl
+or-none false true = refl
+or-none false false = refl
+
+pub last-none : (y z : ℕ) → y ≡ 0 → eqb z 0 ≡ goodLastWords y z
+unfolding goodLastWords
+last-none y z e = rw (e, not-used, or-none (eqb z 0) (usedWord z))
+
+pub last-half : (y z : ℕ) → (y ≡ 0 → ⊥) → usedWord y ≡ false → false ≡ goodLastWords y z
+unfolding goodLastWords
+last-half y z n u = rw (ne-eqb y 0 n, u)
+
+pub last-one : (y z : ℕ) → usedWord y ≡ true → eqb z 0 || usedWord z ≡ goodLastWords y z
+unfolding goodLastWords
+last-one y z u = rw (u, or-true (eqb y 0), and-true (usedWord z))
+
+module _ (w x y z : ℕ) where
+  pub levels-none : w ≡ 0 → eqb x 0 && eqb y 0 && eqb z 0 ≡ goodLevelWords w x y z
+  unfolding goodLevelWords
+  levels-none e = rw (e, not-used, or-none (eqb x 0) (usedWord x), or-none (eqb y 0) (usedWord y), or-none (eqb z 0) (usedWord z))
+
+  pub levels-half : (w ≡ 0 → ⊥) → usedWord w ≡ false → false ≡ goodLevelWords w x y z
+  unfolding goodLevelWords
+  levels-half n u = rw (ne-eqb w 0 n, u)
+
+  module _ (one : usedWord w ≡ true) where
+    pub levels-one : x ≡ 0 → eqb y 0 && eqb z 0 ≡ goodLevelWords w x y z
+    unfolding goodLevelWords
+    levels-one e = rw (one, or-true (eqb w 0), e, not-used, or-none (eqb y 0) (usedWord y), or-none (eqb z 0) (usedWord z))
+
+    pub levels-one-half : (x ≡ 0 → ⊥) → usedWord x ≡ false → false ≡ goodLevelWords w x y z
+    unfolding goodLevelWords
+    levels-one-half n u = rw (one, or-true (eqb w 0), ne-eqb x 0 n, u)
+
+    pub levels-two : usedWord x ≡ true → goodLastWords y z ≡ goodLevelWords w x y z
+    unfolding goodLevelWords goodLastWords
+    levels-two u = rw (one, or-true (eqb w 0), u, or-true (eqb x 0), and-true (usedWord y))
 
 -- ---- the request at a place
 

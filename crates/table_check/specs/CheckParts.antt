@@ -14,7 +14,7 @@ use Rattle.format.specs.Layout.{tableKind, recordsAt, recordBytes, blockRecords
 use Rattle.format.specs.Block.{block, kind, number, total, goodCheck}
 use Rattle.format.specs.Request.{Request, contextOf, levelType, levelValue}
 use Rattle.format.specs.Rule.{Rule}
-use Rattle.format.specs.Fits.{levelFits, fits}
+use Rattle.format.specs.Fits.{levelFits}
 use Rattle.format.specs.Policy.{Policy}
 use Rattle.format.specs.Table.{count, recordAt, goodRecord, goodStamp}
 
@@ -30,12 +30,6 @@ fitsBelow r q n = allBelow n (fitsAt r q)
 -- two requests agree at level i, if the run place takes it in
 abbrev pub sameAt : Rule → Request → Request → ℕ → Bool
 sameAt r q p i = not (eqb (r .level i .mark) 3) || eqb (levelValue (contextOf q) i) (levelValue (contextOf p) i)
-
--- ---- a record
-
--- where a record of the request is marked for the rule of index i, there is that rule, and the context fits it
-abbrev pub goodMarkAt : Policy → Request → ℕ → Bool → Bool
-goodMarkAt p q i marked = not marked || (ltb i (p .rules) && fits (p .rule i) q)
 
 -- ---- a table block: block k of n with the bytes b, and whether some block before it has fewer records than it has places
 

@@ -1,2 +1,3 @@
 pub mod CheckParts
 pub mod RequestWords
+pub mod Shapes

@@ -16,6 +16,10 @@ goodLevelWords w x y z =
     && (eqb y 0 || (usedWord y && (usedWord w && usedWord x)))
     && (eqb z 0 || (usedWord z && (usedWord w && usedWord x && usedWord y)))
 
+-- the last two of them, behind two that are used
+unfoldable pub goodLastWords : ℕ → ℕ → Bool
+goodLastWords y z = (eqb y 0 || usedWord y) && (eqb z 0 || (usedWord z && usedWord y))
+
 -- how many of them are used
 unfoldable pub usedWords : ℕ → ℕ → ℕ → ℕ → ℕ
 usedWords w x y z = cond (usedWord w) 1 0 + cond (usedWord x) 1 0 + cond (usedWord y) 1 0 + cond (usedWord z) 1 0

@@ -1,4 +1,5 @@
 pub mod fits;
 pub mod record;
 pub mod request;
+pub mod shapes;
 pub mod tables;

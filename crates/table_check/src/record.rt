@@ -1,54 +1,55 @@
 // A record of a table: a good request, with marks only for rules of the policy that its context fits.
 ghost use mathlib.Core.Path.{_≡_};
-ghost use mathlib.Core.Option.{none};
-ghost use Prim.Native.Nat.{_+_, _≤_};
+ghost use Prim.Native.Nat.{_+_, _*_, _≤_};
 ghost use lib.ListN.{length};
-ghost use Rattle.words.specs.Bytes.{part};
-ghost use Rattle.format.specs.Policy.{policyFault, ruleCount, policyOf};
-ghost use Rattle.format.specs.Table.{goodMarks, goodRecord};
+ghost use Rattle.words.specs.Bytes.{u32At};
+ghost use Rattle.format.specs.Policy.{Policy};
+ghost use Rattle.format.specs.Table.{goodRecord};
 ghost use Rattle.format.specs.Place.{recordFrom};
-ghost use Rattle.table_check.specs.CheckParts.{goodMarkAt};
-use crate::fits::fits;
+ghost use Rattle.table_check.specs.Shapes.{Shapes, marksFit};
 use crate::request::good_request;
+use crate::shapes::mark_fits;
 use words::field::u32_at;
 
-// One mark: where it is set, the policy has the rule of that index, and the context fits it.
-fn good_mark_at(policy: &[u8], rules: u32, s: &[u8], at: usize, rule: u32, marked: bool) -> bool
-    requires { ⌜ (policyFault (now policy) ≡ none) × ((rules ≡ ruleCount (now policy)) × (at + 32 ≤ length (now s))) ⌝ }
-    ensures { λ r. ⌜ r ≡ goodMarkAt (policyOf (now (policy .entry))) (part (now (s .entry)) at 28) rule marked ⌝ }
+// The two words at a place as one number.
+fn pair_at(s: &[u8], at: usize) -> u64
+    requires { ⌜ at + 8 ≤ length (now s) ⌝ }
+    ensures { λ r. ⌜ r ≡ u32At (now (s .entry)) at + 4294967296 * u32At (now (s .entry)) (at + 4) ⌝ }
 {
-    if !marked {
-        return true;
-    }
-    if rules <= rule {
-        return false;
-    }
-    let from = 512 * (rule as usize);
-    let to = from + 512;
-    fits(&policy[from..to], s, at)
+    (u32_at(s, at) as u64) + 4294967296 * (u32_at(s, at + 4) as u64)
 }
 
-// The marks of the record at a place, from the lowest to the highest that is set.
-pub fn good_marks(policy: &[u8], rules: u32, s: &[u8], at: usize) -> bool
-    requires { ⌜ (policyFault (now policy) ≡ none) × ((rules ≡ ruleCount (now policy)) × (at + 32 ≤ length (now s))) ⌝ }
-    ensures { λ r. ⌜ r ≡ goodMarks (policyOf (now (policy .entry))) (recordFrom (now (s .entry)) at) ⌝ }
+// The marks that are set, from the lowest on.
+fn marks_fit(shapes: &[u64; 128], rules: u32, low: u64, high: u64, marks: u32) -> bool
+    ensures { λ r. ⌜ r ≡ marksFit (now (shapes .entry)) rules low high marks ⌝ }
 {
-    let mut rest = u32_at(s, at + 28);
-    let mut rule: u32 = 0;
+    let mut rest = marks;
     while rest != 0 {
-        if !good_mark_at(policy, rules, s, at, rule, rest % 2 == 1) {
+        if !mark_fits(shapes, rules, low, high, u32::trailing_zeros(rest)) {
             return false;
         }
-        rest = rest / 2;
-        rule += 1;
+        rest = rest & (rest - 1);
     }
     true
 }
 
-// The record at a place.
-pub fn good_record(policy: &[u8], rules: u32, s: &[u8], at: usize) -> bool
-    requires { ⌜ (policyFault (now policy) ≡ none) × ((rules ≡ ruleCount (now policy)) × (at + 32 ≤ length (now s))) ⌝ }
-    ensures { λ r. ⌜ r ≡ goodRecord (policyOf (now (policy .entry))) (recordFrom (now (s .entry)) at) ⌝ }
+// The record at a place, under the policy that the shapes are of.
+pub fn good_record(shapes: &[u64; 128], rules: u32, s: &[u8], at: usize) -> bool
+    requires { ⌜ at + 32 ≤ length (now s) ⌝ }
+    ensures { λ r. ⌜ ((p : Policy) → Shapes p rules (now (shapes .entry)) → r ≡ goodRecord p (recordFrom (now (s .entry)) at)) ⌝ }
 {
-    good_request(s, at) & good_marks(policy, rules, s, at) & (u32_at(s, at + 28) != 0)
+    if !good_request(s, at) {
+        return false;
+    }
+    let marks = u32_at(s, at + 28);
+    if marks == 0 {
+        return false;
+    }
+    marks_fit(
+        shapes,
+        rules,
+        pair_at(s, at + 12),
+        pair_at(s, at + 20),
+        marks,
+    )
 }

@@ -6,7 +6,7 @@ ghost use Prim.Native.Nat.{_+_, _≤_};
 ghost use lib.ListN.{length};
 ghost use Rattle.words.specs.Bytes.{part};
 ghost use Rattle.format.specs.Request.{user as userOf, roles as rolesOf, operation as operationOf, target as targetOf, contextOf, depthOf, goodContext, goodRequest, requestFault};
-ghost use Rattle.table_check.specs.RequestWords.{usedWord, goodLevelWords, usedWords};
+ghost use Rattle.table_check.specs.RequestWords.{usedWord, goodLastWords, goodLevelWords, usedWords};
 ghost use Rattle.format.specs.Code.{faultOf};
 use format::answer::Fault;
 use format::answer::Refusal;
@@ -55,17 +55,36 @@ fn used(word: u32) -> bool
     (word % 65536 != 0) & (word / 65536 != 0)
 }
 
-// The four levels: used ones come first, and the others are zero.
+// The last two levels, behind two used ones.
+fn good_last_levels(y: u32, z: u32) -> bool
+    ensures { λ r. ⌜ r ≡ goodLastWords y z ⌝ }
+{
+    if y == 0 {
+        return z == 0;
+    }
+    if !used(y) {
+        return false;
+    }
+    (z == 0) | used(z)
+}
+
+// The four levels: used ones come first, and the others are zero. On a good table no test but those of a zero leaves early.
 fn good_levels(w: u32, x: u32, y: u32, z: u32) -> bool
     ensures { λ r. ⌜ r ≡ goodLevelWords w x y z ⌝ }
 {
-    let one = used(w);
-    let two = one & used(x);
-    let three = two & used(y);
-    ((w == 0) | one)
-        & ((x == 0) | (used(x) & one))
-        & ((y == 0) | (used(y) & two))
-        & ((z == 0) | (used(z) & three))
+    if w == 0 {
+        return (x == 0) & (y == 0) & (z == 0);
+    }
+    if !used(w) {
+        return false;
+    }
+    if x == 0 {
+        return (y == 0) & (z == 0);
+    }
+    if !used(x) {
+        return false;
+    }
+    good_last_levels(y, z)
 }
 
 // 1 for a used level, and 0 for any other.
@@ -113,10 +132,16 @@ pub fn good_request(s: &[u8], at: usize) -> bool
     requires { ⌜ at + 28 ≤ length (now s) ⌝ }
     ensures { λ r. ⌜ r ≡ goodRequest (part (now (s .entry)) at 28) ⌝ }
 {
-    (u32_at(s, at) != 0)
-        & (u32_at(s, at + 4) != 0)
-        & used(u32_at(s, at + 8))
-        & good_context(s, at + 12)
+    if u32_at(s, at) == 0 {
+        return false;
+    }
+    if u32_at(s, at + 4) == 0 {
+        return false;
+    }
+    if !used(u32_at(s, at + 8)) {
+        return false;
+    }
+    good_context(s, at + 12)
 }
 
 // The check of a request: its length, and then its fields.

@@ -6,11 +6,13 @@ ghost use lib.ListN.{length};
 ghost use Rattle.words.specs.Code.{sumsOf};
 ghost use Rattle.words.specs.First.{first};
 ghost use Rattle.format.specs.Block.{blocks};
-ghost use Rattle.format.specs.Policy.{policyFault, ruleCount, policyOf, stamp as stampOf};
+ghost use Rattle.format.specs.Policy.{Policy, policyFault, ruleCount, stamp as stampOf};
 ghost use Rattle.format.specs.Table.{count, goodStamp, tableBlockFault, tableFault, recordsOf};
 ghost use Rattle.table_check.specs.CheckParts.{goodTableHeading, goodTableHead, recordsFault, tableFaultIn};
+ghost use Rattle.table_check.specs.Shapes.{Shapes};
 ghost use Rattle.format.specs.Code.{faultOf};
 use crate::record::good_record;
+use crate::shapes::shapes_of;
 use format::answer::Fault;
 use format::answer::Refusal;
 use policy_check::block::good_check;
@@ -54,13 +56,13 @@ fn good_stamp(b: &[u8], stamp: Sum) -> bool
 }
 
 // The first bad record of block k.
-fn records_fault(policy: &[u8], rules: u32, b: &[u8], k: u32) -> Fault
-    requires { ⌜ (policyFault (now policy) ≡ none) × ((rules ≡ ruleCount (now policy)) × ((length (now b) ≡ 512) × (count (now b) ≤ 15))) ⌝ }
-    ensures { λ r. ⌜ faultOf r ≡ recordsFault (policyOf (now (policy .entry))) k (now (b .entry)) ⌝ }
+fn records_fault(shapes: &[u64; 128], rules: u32, b: &[u8], k: u32) -> Fault
+    requires { ⌜ (length (now b) ≡ 512) × (count (now b) ≤ 15) ⌝ }
+    ensures { λ r. ⌜ ((p : Policy) → Shapes p rules (now (shapes .entry)) → faultOf r ≡ recordsFault p k (now (b .entry))) ⌝ }
 {
     let n = u16_at(b, 8);
     for i in 0..n {
-        if !good_record(policy, rules, b, 24 + 32 * (i as usize)) {
+        if !good_record(shapes, rules, b, 24 + 32 * (i as usize)) {
             return Fault::At(Refusal {
                 number: 15,
                 first: k,
@@ -73,7 +75,7 @@ fn records_fault(policy: &[u8], rules: u32, b: &[u8], k: u32) -> Fault
 
 // The first fault of block k of n.
 fn block_fault(
-    policy: &[u8],
+    shapes: &[u64; 128],
     rules: u32,
     stamp: Sum,
     b: &[u8],
@@ -81,8 +83,8 @@ fn block_fault(
     n: u32,
     short: bool,
 ) -> Fault
-    requires { ⌜ (policyFault (now policy) ≡ none) × ((rules ≡ ruleCount (now policy)) × (length (now b) ≡ 512)) ⌝ }
-    ensures { λ r. ⌜ faultOf r ≡ tableFaultIn (policyOf (now (policy .entry))) (sumsOf stamp) short k n (now (b .entry)) ⌝ }
+    requires { ⌜ length (now b) ≡ 512 ⌝ }
+    ensures { λ r. ⌜ ((p : Policy) → Shapes p rules (now (shapes .entry)) → faultOf r ≡ tableFaultIn p (sumsOf stamp) short k n (now (b .entry))) ⌝ }
 {
     if !good_check(b) {
         return Fault::At(Refusal {
@@ -105,13 +107,13 @@ fn block_fault(
             second: 0,
         });
     }
-    records_fault(policy, rules, b, k)
+    records_fault(shapes, rules, b, k)
 }
 
 // The blocks in turn.
-fn blocks_fault(policy: &[u8], rules: u32, stamp: Sum, table: &[u8]) -> Fault
-    requires { ⌜ (policyFault (now policy) ≡ none) × ((rules ≡ ruleCount (now policy)) × ((sumsOf stamp ≡ stampOf (now policy)) × (length (now table) ≤ 65536))) ⌝ }
-    ensures { λ r. ⌜ faultOf r ≡ first (tableBlockFault (policyOf (now (policy .entry))) (stampOf (now (policy .entry))) (now (table .entry))) 0 (blocks (now (table .entry))) ⌝ }
+fn blocks_fault(shapes: &[u64; 128], rules: u32, stamp: Sum, table: &[u8]) -> Fault
+    requires { ⌜ length (now table) ≤ 65536 ⌝ }
+    ensures { λ r. ⌜ ((p : Policy) → Shapes p rules (now (shapes .entry)) → faultOf r ≡ first (tableBlockFault p (sumsOf stamp) (now (table .entry))) 0 (blocks (now (table .entry)))) ⌝ }
 {
     let n = table.len() / 512;
     let mut short = false;
@@ -119,7 +121,7 @@ fn blocks_fault(policy: &[u8], rules: u32, stamp: Sum, table: &[u8]) -> Fault
         let at = 512 * k;
         let to = at + 512;
         let b = &table[at..to];
-        let fault = block_fault(policy, rules, stamp, b, k as u32, n as u32, short);
+        let fault = block_fault(shapes, rules, stamp, b, k as u32, n as u32, short);
         let Fault::Nothing = fault else {
             return fault;
         };
@@ -140,7 +142,9 @@ pub fn table_fault(policy: &[u8], rules: u32, stamp: Sum, table: &[u8]) -> Fault
             second: 0,
         });
     }
-    blocks_fault(policy, rules, stamp, table)
+    let mut shapes = [0u64; 128];
+    shapes_of(policy, rules, &mut shapes);
+    blocks_fault(&shapes, rules, stamp, table)
 }
 
 // How many records a table has.

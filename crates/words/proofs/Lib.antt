@@ -14,4 +14,5 @@ pub mod Bits
 pub mod Fours
 pub mod BitLaws
 pub mod Halves
+pub mod Lowest
 pub mod Sums

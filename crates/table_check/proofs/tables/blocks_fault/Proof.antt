@@ -7,37 +7,39 @@ use lib.ListN.{length-take, length-drop}
 use borrow.Author.Needs.{needs}
 use Rattle.words.specs.Lists.{anyBelow}
 use Rattle.words.specs.First.{first}
+use Rattle.words.specs.Code.{sumsOf}
 use Rattle.words.proofs.Parts.{part-to}
 use Rattle.words.proofs.First.{first-start, first-hit, first-more, first-done}
 use Rattle.format.specs.Block.{block, blocks}
-use Rattle.format.specs.Policy.{policyOf, stamp as stampOf}
+use Rattle.format.specs.Policy.{Policy}
 use Rattle.format.specs.Table.{tableBlockFault}
 use Rattle.table_check.specs.CheckParts.{shortBefore, tableFaultIn}
+use Rattle.table_check.specs.Shapes.{Shapes}
 use Rattle.format.specs.Code.{faultOf}
 use Rattle.table_check.proofs.TableBlock.{fault-of-block, short-more}
 use Rattle.table_check.proofs.tables.blocks_fault.Statement.{statement}
 use Rattle.table_check.proofs.tables.blocks_fault.Tie as tie
 
 abbrev Inv-loop : tie.InvT-loop
-Inv-loop policy rules stamp table n short₀ k₀ short k = (k ≤ n) × ((short ≡ shortBefore table k) × (first (tableBlockFault (policyOf policy) (stampOf policy) table) k (n - k) ≡ first (tableBlockFault (policyOf policy) (stampOf policy) table) 0 n))
+Inv-loop shapes rules stamp table n short₀ k₀ short k = (k ≤ n) × ((short ≡ shortBefore table k) × ((p : Policy) → Shapes p rules shapes → first (tableBlockFault p (sumsOf stamp) table) k (n - k) ≡ first (tableBlockFault p (sumsOf stamp) table) 0 n))
 
 abbrev μ-loop : tie.MeasureT-loop
-μ-loop policy rules stamp table n short₀ k₀ short k = n - k
+μ-loop shapes rules stamp table n short₀ k₀ short k = n - k
 
 -- what `block_fault` answers is the fault of block k of the table
 fault : (c : tie.After-block-fault Inv-loop μ-loop) →
-    let a = c .before .before .before .before .before .before .args in
-    faultOf (c .block-fault .result) ≡ tableBlockFault (policyOf (a .policy .now)) (stampOf (a .policy .now)) (a .table .now) (c .before .before .before .loop .k)
-fault c =
-    let a = c .before .before .before .before .before .before .args in
+    let a = c .before .before .before .before .before .args in
+    (p : Policy) → Shapes p (a .rules) (a .shapes .now) → faultOf (c .block-fault .result) ≡ tableBlockFault p (sumsOf (a .stamp)) (a .table .now) (c .before .before .before .loop .k)
+fault c p of =
+    let a = c .before .before .before .before .before .args in
     let l = c .before .before .before .loop in
-    let e : faultOf (c .block-fault .result) ≡ tableFaultIn (policyOf (a .policy .now)) (stampOf (a .policy .now)) (shortBefore (a .table .now) (l .k)) (l .k) (blocks (a .table .now)) (block (a .table .now) (l .k)) =
-    rw (part-to (a .table .now) (512 * l .k) 512, c .before .before .before .before .before .before .pre .1 .1 .0, l .inv .1 .0) at (c .block-fault .ensures) in
-    e ∙ fault-of-block (a .table .now) (l .k) (policyOf (a .policy .now)) (stampOf (a .policy .now))
+    let e : faultOf (c .block-fault .result) ≡ tableFaultIn p (sumsOf (a .stamp)) (shortBefore (a .table .now) (l .k)) (l .k) (blocks (a .table .now)) (block (a .table .now) (l .k)) =
+    rw (part-to (a .table .now) (512 * l .k) 512, l .inv .1 .0) at (c .block-fault .ensures p of) in
+    e ∙ fault-of-block (a .table .now) (l .k) p (sumsOf (a .stamp))
 
 loop-holds : tie.Need-loop-holds Inv-loop μ-loop
 unfolding anyBelow
-loop-holds c = let a = c .before .before .args in (omega arith, (refl, first-start (tableBlockFault (policyOf (a .policy .now)) (stampOf (a .policy .now)) (a .table .now)) (blocks (a .table .now))))
+loop-holds c = let a = c .before .args in (omega arith, (refl, λ p of. first-start (tableBlockFault p (sumsOf (a .stamp)) (a .table .now)) (blocks (a .table .now))))
 
 mul-at : tie.Need-mul-at Inv-loop μ-loop
 mul-at c = search needs
@@ -62,9 +64,7 @@ cast-block-fault-2 c = search needs
 
 block-fault-requires : tie.Need-block-fault-requires Inv-loop μ-loop
 block-fault-requires c κs =
-    let a = c .before .before .before .before .before .args in
-    let p = c .before .before .before .before .before .pre in
-    (p .0, (p .1 .0, simp (length-take, length-drop) (omega arith)))
+    simp (length-take, length-drop) (omega arith)
 
 enum-told : tie.Need-enum-told Inv-loop μ-loop
 enum-told c = search needs
@@ -74,10 +74,10 @@ enum-told-2 c = search needs
 
 returns : tie.Need-returns Inv-loop μ-loop
 returns c =
-    let a = c .before .before .before .before .before .before .before .before .args in
+    let a = c .before .before .before .before .before .before .before .args in
     let l = c .before .before .before .before .before .loop in
     let e = ap faultOf (c .enum-told2 .given .1) in
-    e ∙ first-hit (tableBlockFault (policyOf (a .policy .now)) (stampOf (a .policy .now)) (a .table .now)) (l .k) (blocks (a .table .now)) (l .inv .1 .1) (omega arith) (sym (fault (c .before .before)) ∙ e)
+    λ p of. e ∙ first-hit (tableBlockFault p (sumsOf (a .stamp)) (a .table .now)) (l .k) (blocks (a .table .now)) (l .inv .1 .1 p of) (omega arith) (sym (fault (c .before .before) p of) ∙ e)
 
 u16-at-requires : tie.Need-u16-at-requires Inv-loop μ-loop
 u16-at-requires c κs = search needs
@@ -90,19 +90,19 @@ loop-less c = search needs
 
 loop-again : tie.Need-loop-again Inv-loop μ-loop
 loop-again c =
-    let a = c .before .before .before .before .before .before .before .before .before .args in
+    let a = c .before .before .before .before .before .before .before .before .args in
     let l = c .before .before .before .before .before .before .loop in (
       omega arith,
       (
         rw (l .inv .1 .0, c .u16-at .ensures .0, part-to (a .table .now) (512 * l .k) 512) (short-more (a .table .now) (l .k)),
-        first-more (tableBlockFault (policyOf (a .policy .now)) (stampOf (a .policy .now)) (a .table .now)) (l .k) (blocks (a .table .now)) (l .inv .1 .1) (omega arith) (sym (fault (c .before .before .before)) ∙ ap faultOf (c .before .enum-told .given .1)),
+        λ p of. first-more (tableBlockFault p (sumsOf (a .stamp)) (a .table .now)) (l .k) (blocks (a .table .now)) (l .inv .1 .1 p of) (omega arith) (sym (fault (c .before .before .before) p of) ∙ ap faultOf (c .before .enum-told .given .1)),
       ),
     )
 
 returns-2 : tie.Need-returns-2 Inv-loop μ-loop
 returns-2 c =
-    let a = c .before .before .before .before .args in
-    first-done (tableBlockFault (policyOf (a .policy .now)) (stampOf (a .policy .now)) (a .table .now)) (c .before .loop .k) (blocks (a .table .now)) (c .before .loop .inv .1 .1) (c .loop-test .left)
+    let a = c .before .before .before .args in
+    λ p of. first-done (tableBlockFault p (sumsOf (a .stamp)) (a .table .now)) (c .before .loop .k) (blocks (a .table .now)) (c .before .loop .inv .1 .1 p of) (c .loop-test .left)
 
 pub blocks-fault-spec : {M : Type 1} → statement M
 blocks-fault-spec =

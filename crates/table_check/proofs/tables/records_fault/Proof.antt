@@ -9,31 +9,32 @@ use Rattle.words.specs.First.{first}
 use Rattle.words.proofs.First.{unless-passes, unless-fails, first-start, first-hit, first-more, first-done}
 use Rattle.format.specs.Answer.{refusal}
 use Rattle.format.specs.Table.{count, recordAt, goodRecord}
-use Rattle.format.specs.Policy.{policyOf}
+use Rattle.format.specs.Policy.{Policy}
 use Rattle.table_check.specs.CheckParts.{recordFaultAt, recordsFault}
+use Rattle.table_check.specs.Shapes.{Shapes}
 use Rattle.table_check.proofs.Here.{record-from}
 use Rattle.table_check.proofs.tables.records_fault.Statement.{statement}
 use Rattle.table_check.proofs.tables.records_fault.Tie as tie
 
 abbrev Inv-loop : tie.InvT-loop
-Inv-loop policy rules b k n i₀ i = (i ≤ n) × ((n ≡ count b) × (first (recordFaultAt (policyOf policy) k b) i (n - i) ≡ recordsFault (policyOf policy) k b))
+Inv-loop shapes rules b k n i₀ i = (i ≤ n) × ((n ≡ count b) × ((p : Policy) → Shapes p rules shapes → first (recordFaultAt p k b) i (n - i) ≡ recordsFault p k b))
 
 abbrev μ-loop : tie.MeasureT-loop
-μ-loop policy rules b k n i₀ i = n - i
+μ-loop shapes rules b k n i₀ i = n - i
 
 -- what the call says of record i
 said : (c : tie.After-good-record Inv-loop μ-loop) →
-    let a = c .before .before .before .before .before .before .args in
-    goodRecord (policyOf (a .policy .now)) (recordAt (a .b .now) (c .before .before .loop .i)) ≡ c .good-record .result
-said c = rw (record-from (c .before .before .before .before .before .before .args .b .now) (c .before .before .loop .i)) (sym (c .good-record .ensures))
+    let a = c .before .before .before .before .before .args in
+    (p : Policy) → Shapes p (a .rules) (a .shapes .now) → goodRecord p (recordAt (a .b .now) (c .before .before .loop .i)) ≡ c .good-record .result
+said c p of = rw (record-from (c .before .before .before .before .before .args .b .now) (c .before .before .loop .i)) (sym (c .good-record .ensures p of))
 
 u16-at-requires : tie.Need-u16-at-requires Inv-loop μ-loop
 u16-at-requires c κs = search needs
 
 loop-holds : tie.Need-loop-holds Inv-loop μ-loop
 loop-holds c =
-    let a = c .before .before .before .args in
-    (omega arith, (c .u16-at .ensures .0, rw (c .u16-at .ensures .0) (first-start (recordFaultAt (policyOf (a .policy .now)) (a .k) (a .b .now)) (count (a .b .now)))))
+    let a = c .before .before .args in
+    (omega arith, (c .u16-at .ensures .0, λ p of. rw (c .u16-at .ensures .0) (first-start (recordFaultAt p (a .k) (a .b .now)) (count (a .b .now)))))
 
 cast-good-record : tie.Need-cast-good-record Inv-loop μ-loop
 cast-good-record c = search needs
@@ -52,10 +53,11 @@ add-t12 c = search needs
 
 returns : tie.Need-returns Inv-loop μ-loop
 returns c =
-    let a = c .before .before .before .before .before .before .before .args in
+    let a = c .before .before .before .before .before .before .args in
     let l = c .before .before .before .loop in
-    first-hit (recordFaultAt (policyOf (a .policy .now)) (a .k) (a .b .now)) (l .i) (c .before .before .before .before .u16-at .result) (l .inv .1 .1) (omega arith)
-    (unless-fails (refusal 15 (a .k) (l .i + 1)) (said (c .before) ∙ not-true (c .before .good-record .result) (c .if1 .taken)))
+    λ p of.
+    first-hit (recordFaultAt p (a .k) (a .b .now)) (l .i) (c .before .before .before .before .u16-at .result) (l .inv .1 .1 p of) (omega arith)
+    (unless-fails (refusal 15 (a .k) (l .i + 1)) (said (c .before) p of ∙ not-true (c .before .good-record .result) (c .if1 .taken)))
 
 add-i : tie.Need-add-i Inv-loop μ-loop
 add-i c = search needs
@@ -65,20 +67,21 @@ loop-less c = search needs
 
 loop-again : tie.Need-loop-again Inv-loop μ-loop
 loop-again c =
-    let a = c .before .before .before .before .before .before .before .args in
+    let a = c .before .before .before .before .before .before .args in
     let l = c .before .before .before .loop in (
       omega arith,
       (
         l .inv .1 .0,
-        first-more (recordFaultAt (policyOf (a .policy .now)) (a .k) (a .b .now)) (l .i) (c .before .before .before .before .u16-at .result) (l .inv .1 .1) (omega arith)
-            (unless-passes (refusal 15 (a .k) (l .i + 1)) (said (c .before) ∙ not-false (c .before .good-record .result) (c .if1 .left))),
+        λ p of.
+            first-more (recordFaultAt p (a .k) (a .b .now)) (l .i) (c .before .before .before .before .u16-at .result) (l .inv .1 .1 p of) (omega arith)
+            (unless-passes (refusal 15 (a .k) (l .i + 1)) (said (c .before) p of ∙ not-false (c .before .good-record .result) (c .if1 .left))),
       ),
     )
 
 returns-2 : tie.Need-returns-2 Inv-loop μ-loop
 returns-2 c =
-    let a = c .before .before .before .before .before .args in
-    first-done (recordFaultAt (policyOf (a .policy .now)) (a .k) (a .b .now)) (c .before .loop .i) (c .before .before .u16-at .result) (c .before .loop .inv .1 .1) (omega arith)
+    let a = c .before .before .before .before .args in
+    λ p of. first-done (recordFaultAt p (a .k) (a .b .now)) (c .before .loop .i) (c .before .before .u16-at .result) (c .before .loop .inv .1 .1 p of) (omega arith)
 
 pub records-fault-spec : {M : Type 1} → statement M
 records-fault-spec =

@@ -8,6 +8,7 @@ use borrow.Author.Needs.{needs}
 use Rattle.words.proofs.First.{test-fails, test-passes}
 use Rattle.format.specs.Answer.{refusal}
 use Rattle.format.specs.Block.{goodLength}
+use Rattle.format.specs.Policy.{policyOf}
 use Rattle.format.specs.Table.{tableLengthFault, tableFault}
 use Rattle.format.proofs.Accepted.{blocked}
 use Rattle.table_check.proofs.tables.table_fault.Statement.{statement}
@@ -23,16 +24,27 @@ returns : tie.Need-returns
 unfolding tableFault tableLengthFault
 returns c = sym (test-fails (refusal 11 0 0) _ (sym (c .before .good-length .ensures) ∙ not-true (c .before .good-length .result) (c .if1 .taken)))
 
+shapes-of-requires : tie.Need-shapes-of-requires
+shapes-of-requires c κs = search needs
+
 blocks-fault-requires : tie.Need-blocks-fault-requires
 blocks-fault-requires c κs =
-    let p = c .before .before .before .before .pre in
-    let b = blocked 128 (c .before .before .before .before .args .table .now) (sized c) in
-    (p .0, (p .1 .0, (p .1 .1, omega (arith, b .whole-blocks, b .not-over))))
+    let b = blocked 128 (c .before .before .before .before .before .before .before .args .table .now) (sized (c .before .before .before)) in
+    omega (arith, b .whole-blocks, b .not-over)
 
 returns-2 : tie.Need-returns-2
 unfolding tableFault tableLengthFault
-returns-2 c = c .blocks-fault .ensures ∙ sym (test-passes (refusal 11 0 0) _ (sized (c .before)))
+returns-2 c =
+    let s = c .before .before .before .before .before .before .before .before in
+    rw (s .pre .1 .1) at (c .blocks-fault .ensures (policyOf (s .args .policy .now)) (c .before .before .shapes-of .ensures))
+    ∙ sym (test-passes (refusal 11 0 0) _ (sized (c .before .before .before .before)))
 
 pub table-fault-spec : {M : Type 1} → statement M
 table-fault-spec =
-    tie.close (tie.spec good-length-requires returns blocks-fault-requires returns-2)
+    tie.close
+    (tie.spec
+    good-length-requires
+    returns
+    shapes-of-requires
+    blocks-fault-requires
+    returns-2)

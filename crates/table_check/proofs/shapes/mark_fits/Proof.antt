@@ -1,0 +1,72 @@
+-- `table_check::shapes::mark_fits` meets its contract.
+-- Assumes nothing.
+use borrow.Author.Tests.{le-ltb, lt-ltb}
+use Rattle.table_check.specs.Shapes.{shapeFits, markFits}
+use borrow.Author.Needs.{needs}
+use Rattle.table_check.proofs.shapes.mark_fits.Statement.{statement}
+use Rattle.table_check.proofs.shapes.mark_fits.Tie as tie
+use Rattle.table_check.proofs.shapes.mark_fits.Reads as reads
+use Rattle.table_check.proofs.shapes.mark_fits.Lts as lts
+
+returns : tie.Need-returns
+unfolding markFits
+returns c = let a = c .before .args in rw (le-ltb (a .i) (a .rules) (c .if1 .taken))
+
+mul-at : tie.Need-mul-at
+mul-at c = search needs
+
+add-result : tie.Need-add-result
+add-result c = search needs
+
+mul-result : tie.Need-mul-result
+mul-result c = search needs
+
+element-copy-out-result : tie.Need-element-copy-out-result
+element-copy-out-result c = search needs
+
+mul-result-2 : tie.Need-mul-result-2
+mul-result-2 c = search needs
+
+element-copy-out-result-2 : tie.Need-element-copy-out-result-2
+element-copy-out-result-2 c = search needs
+
+add-result-2 : tie.Need-add-result-2
+add-result-2 c = search needs
+
+mul-result-3 : tie.Need-mul-result-3
+mul-result-3 c = search needs
+
+element-copy-out-result-3 : tie.Need-element-copy-out-result-3
+element-copy-out-result-3 c = search needs
+
+add-result-3 : tie.Need-add-result-3
+add-result-3 c = search needs
+
+mul-result-4 : tie.Need-mul-result-4
+mul-result-4 c = search needs
+
+element-copy-out-result-4 : tie.Need-element-copy-out-result-4
+element-copy-out-result-4 c = search needs
+
+returns-2 : tie.Need-returns-2
+unfolding markFits shapeFits
+returns-2 c = let a = c .before .before .before .before .before .args in rw (lt-ltb (a .i) (a .rules) (c .before .before .before .before .if1 .left))
+
+pub mark-fits-spec : {M : Type 1} → statement M
+mark-fits-spec =
+    tie.close
+    (tie.spec
+    returns
+    mul-at
+    add-result
+    mul-result
+    element-copy-out-result
+    mul-result-2
+    element-copy-out-result-2
+    add-result-2
+    mul-result-3
+    element-copy-out-result-3
+    add-result-3
+    mul-result-4
+    element-copy-out-result-4
+    returns-2)

@@ -1,0 +1,69 @@
+// The shapes of a policy's rules: what each asks of a context, prepared once for all the records of a table.
+ghost use mathlib.Core.Path.{_≡_};
+ghost use mathlib.Core.Option.{none};
+ghost use Prim.Native.Nat.{_<_};
+ghost use lib.ListN.{length};
+ghost use Rattle.format.specs.Rule.{ruleAt};
+ghost use Rattle.format.specs.Policy.{policyFault, policyOf, ruleCount};
+ghost use Rattle.table_check.specs.Shapes.{levelWant, levelMask, shapeWord, Shapes, markFits};
+use words::field::u16_at;
+use words::field::wide;
+
+// What a rule wants of the word of a context's level.
+fn level_want(b: &[u8], l: usize) -> u64
+    requires { ⌜ (length (now b) ≡ 512) × (l < 4) ⌝ }
+    ensures { λ r. ⌜ (r ≡ levelWant (ruleAt (now (b .entry))) l) × (r < 4294967296) ⌝ }
+{
+    (u16_at(b, 16 + 8 * l) + 65536 * u16_at(b, 20 + 8 * l)) as u64
+}
+
+// The bits of that word which the rule asks.
+fn level_mask(b: &[u8], l: usize) -> u64
+    requires { ⌜ (length (now b) ≡ 512) × (l < 4) ⌝ }
+    ensures { λ r. ⌜ (r ≡ levelMask (ruleAt (now (b .entry))) l) × (r < 4294967296) ⌝ }
+{
+    if wide(b[8]) as usize <= l {
+        return 0;
+    }
+    if b[18 + 8 * l] == 1 {
+        return 4294967295;
+    }
+    65535
+}
+
+// Number n of a rule's shape.
+fn shape_word(b: &[u8], n: usize) -> u64
+    requires { ⌜ (length (now b) ≡ 512) × (n < 4) ⌝ }
+    ensures { λ r. ⌜ r ≡ shapeWord (ruleAt (now (b .entry))) n ⌝ }
+{
+    if n < 2 {
+        return level_want(b, 2 * n) + 4294967296 * level_want(b, 2 * n + 1);
+    }
+    level_mask(b, 2 * n - 4) + 4294967296 * level_mask(b, 2 * n - 4 + 1)
+}
+
+// The shapes of an accepted policy's rules.
+pub fn shapes_of(policy: &[u8], rules: u32, out: &mut [u64; 128])
+    requires { ⌜ (policyFault (now policy) ≡ none) × (rules ≡ ruleCount (now policy)) ⌝ }
+    requires { ⌜ length (now out) ≡ 128 ⌝ }
+    ensures { λ r. ⌜ Shapes (policyOf (now (policy .entry))) rules (now (out .exit)) ⌝ }
+{
+    let n = 4 * (rules as usize);
+    for k in 0..n {
+        let from = 512 * (k / 4);
+        let to = from + 512;
+        out[k] = shape_word(&policy[from..to], k % 4);
+    }
+}
+
+// The policy has the rule of an index, and the levels of a context, two in each number, are as its shape wants them.
+pub fn mark_fits(shapes: &[u64; 128], rules: u32, low: u64, high: u64, i: u32) -> bool
+    requires { ⌜ i < 32 ⌝ }
+    ensures { λ r. ⌜ r ≡ markFits (now (shapes .entry)) rules low high i ⌝ }
+{
+    if rules <= i {
+        return false;
+    }
+    let at = 4 * (i as usize);
+    (low & shapes[at + 2] == shapes[at]) & (high & shapes[at + 3] == shapes[at + 1])
+}
