@@ -1,10 +1,34 @@
-// Privileges, an operation with a target, as a rule block holds them. Each function is told where the privilege stands and reads
+// Privileges, an operation with a target, as the images hold them. Each function is told where the privilege stands and reads
 // both numbers itself, so that no caller can mix them up.
 ghost use mathlib.Core.Path.{_≡_};
-ghost use Prim.Native.Nat.{_+_, _<_};
+ghost use Prim.Native.Nat.{_+_, _*_, _<_};
 ghost use lib.ListN.{length};
+ghost use Rattle.words.specs.Bytes.{u32At};
 ghost use Rattle.format.specs.Rule.{privilegeAt, fullPrivilege, blankPrivilege, samePrivilege};
+use format::number::Operation;
+use format::number::Target;
 use words::field::u16_at;
+
+// An operation and a target in one number, as their bytes stand: two privileges are one if these are equal.
+pub struct Privilege(pub u32);
+
+impl Privilege {
+    // What an operation and a target make together.
+    pub fn of(operation: Operation, target: Target) -> Self
+        requires { ⌜ (operation .0 < 65536) × (target .0 < 65536) ⌝ }
+        ensures { λ r. ⌜ r .0 ≡ operation .0 + 65536 * target .0 ⌝ }
+    {
+        Privilege(operation.0 + 65536 * target.0)
+    }
+}
+
+// The privilege at a place.
+pub fn read(b: &[u8], at: usize) -> Privilege
+    requires { ⌜ at + 3 < length (now b) ⌝ }
+    ensures { λ r. ⌜ r .0 ≡ u32At (now (b .entry)) at ⌝ }
+{
+    Privilege::of(Operation(u16_at(b, at)), Target(u16_at(b, at + 2)))
+}
 
 // Both numbers are from 1.
 pub fn full(b: &[u8], at: usize) -> bool
