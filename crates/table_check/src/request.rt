@@ -68,7 +68,7 @@ fn good_last_levels(y: u32, z: u32) -> bool
     (z == 0) | used(z)
 }
 
-// The four levels: used ones come first, and the others are zero. On a good table no test but those of a zero leaves early.
+// The four levels: used ones come first, and the others are zero. What fails ends the test: on a good table nothing does.
 fn good_levels(w: u32, x: u32, y: u32, z: u32) -> bool
     ensures { λ r. ⌜ r ≡ goodLevelWords w x y z ⌝ }
 {

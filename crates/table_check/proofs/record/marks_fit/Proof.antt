@@ -6,9 +6,9 @@ use mathlib.Core.Path.{_≡_, refl, sym, _∙_}
 use lib.Bits.{bitAnd, and-le-l, and-le-r}
 use lib.Count.{trailingZeros}
 use borrow.Author.Tests.{not-true, not-false}
+use borrow.Author.Needs.{needs}
 use Rattle.words.proofs.Lowest.{Lowest, lowest, none-set, lowest-fails, lowest-more}
 use Rattle.table_check.specs.Shapes.{markFits, marksFit}
-use borrow.Author.Needs.{needs}
 use Rattle.table_check.proofs.record.marks_fit.Statement.{statement}
 use Rattle.table_check.proofs.record.marks_fit.Tie as tie
 

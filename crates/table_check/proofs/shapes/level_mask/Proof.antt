@@ -3,15 +3,12 @@
 use Prim.Native.Nat.{_+_, _*_}
 use native.Mathlib.Omega.{arith}
 use borrow.Author.Tests.{le-ltb, lt-ltb, eq-eqb, ne-eqb}
-use Rattle.words.specs.Bytes.{byteAt}
-use Rattle.table_check.specs.Shapes.{levelMask}
-use Rattle.format.specs.Rule.{ruleAt}
 use borrow.Author.Needs.{needs}
+use Rattle.words.specs.Bytes.{byteAt}
+use Rattle.format.specs.Rule.{ruleAt}
+use Rattle.table_check.specs.Shapes.{levelMask}
 use Rattle.table_check.proofs.shapes.level_mask.Statement.{statement}
 use Rattle.table_check.proofs.shapes.level_mask.Tie as tie
-use Rattle.table_check.proofs.shapes.level_mask.Reads as reads
-use Rattle.table_check.proofs.shapes.level_mask.Lts as lts
-use Rattle.words.proofs.field.wide.Reads as wide-reads
 
 shared-slice-read-wide : tie.Need-shared-slice-read-wide
 shared-slice-read-wide c = search needs

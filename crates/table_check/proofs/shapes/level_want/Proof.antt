@@ -1,14 +1,11 @@
 -- `table_check::shapes::level_want` meets its contract.
 -- Assumes nothing.
 use native.Mathlib.Omega.{arith}
-use Rattle.table_check.specs.Shapes.{levelWant}
-use Rattle.format.specs.Rule.{ruleAt}
 use borrow.Author.Needs.{needs}
+use Rattle.format.specs.Rule.{ruleAt}
+use Rattle.table_check.specs.Shapes.{levelWant}
 use Rattle.table_check.proofs.shapes.level_want.Statement.{statement}
 use Rattle.table_check.proofs.shapes.level_want.Tie as tie
-use Rattle.table_check.proofs.shapes.level_want.Reads as reads
-use Rattle.table_check.proofs.shapes.level_want.Lts as lts
-use Rattle.words.proofs.field.u16_at.Reads as u16-at-reads
 
 mul-u16-at : tie.Need-mul-u16-at
 mul-u16-at c = search needs

@@ -1,16 +1,15 @@
 -- `table_check::shapes::mark_fits` meets its contract.
 -- Assumes nothing.
+use native.Mathlib.Omega.{arith}
 use borrow.Author.Tests.{le-ltb, lt-ltb}
-use Rattle.table_check.specs.Shapes.{shapeFits, markFits}
 use borrow.Author.Needs.{needs}
+use Rattle.table_check.specs.Shapes.{shapeFits, markFits}
 use Rattle.table_check.proofs.shapes.mark_fits.Statement.{statement}
 use Rattle.table_check.proofs.shapes.mark_fits.Tie as tie
-use Rattle.table_check.proofs.shapes.mark_fits.Reads as reads
-use Rattle.table_check.proofs.shapes.mark_fits.Lts as lts
 
 returns : tie.Need-returns
 unfolding markFits
-returns c = let a = c .before .args in rw (le-ltb (a .i) (a .rules) (c .if1 .taken))
+returns c = let a = c .before .args in rw (le-ltb (a .i) (a .rules) (omega arith))
 
 mul-at : tie.Need-mul-at
 mul-at c = search needs
@@ -50,7 +49,7 @@ element-copy-out-result-4 c = search needs
 
 returns-2 : tie.Need-returns-2
 unfolding markFits shapeFits
-returns-2 c = let a = c .before .before .before .before .before .args in rw (lt-ltb (a .i) (a .rules) (c .before .before .before .before .if1 .left))
+returns-2 c = let a = c .before .before .before .before .before .args in rw (lt-ltb (a .i) (a .rules) (omega arith))
 
 pub mark-fits-spec : {M : Type 1} → statement M
 mark-fits-spec =

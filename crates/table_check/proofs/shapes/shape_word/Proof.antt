@@ -1,14 +1,10 @@
 -- `table_check::shapes::shape_word` meets its contract.
 -- Assumes nothing.
 use borrow.Author.Tests.{lt-ltb, le-ltb}
-use Rattle.table_check.specs.Shapes.{shapeWord}
 use borrow.Author.Needs.{needs}
+use Rattle.table_check.specs.Shapes.{shapeWord}
 use Rattle.table_check.proofs.shapes.shape_word.Statement.{statement}
 use Rattle.table_check.proofs.shapes.shape_word.Tie as tie
-use Rattle.table_check.proofs.shapes.shape_word.Reads as reads
-use Rattle.table_check.proofs.shapes.shape_word.Lts as lts
-use Rattle.table_check.proofs.shapes.level_mask.Reads as level-mask-reads
-use Rattle.table_check.proofs.shapes.level_want.Reads as level-want-reads
 
 mul-level-want : tie.Need-mul-level-want
 mul-level-want c = search needs

@@ -4,17 +4,14 @@ use Prim.Native.Nat.{ℕ, _-_, _*_, _/_, _≤_}
 use native.Mathlib.Omega.{arith}
 use mathlib.Core.Path.{_≡_, _∙_}
 use lib.ListN.{length, getD, length-set}
+use borrow.Author.Needs.{needs}
 use Rattle.words.proofs.Bytes.{Byte}
 use Rattle.words.proofs.Parts.{part-to, part-length}
 use Rattle.format.specs.Policy.{policyOf}
 use Rattle.format.proofs.AcceptedPolicy.{rules-few, rules-most}
 use Rattle.table_check.proofs.Fitting.{ShapedBelow, shaped-more, shapes-made}
-use borrow.Author.Needs.{needs}
 use Rattle.table_check.proofs.shapes.shapes_of.Statement.{statement}
 use Rattle.table_check.proofs.shapes.shapes_of.Tie as tie
-use Rattle.table_check.proofs.shapes.shapes_of.Reads as reads
-use Rattle.table_check.proofs.shapes.shapes_of.Lts as lts
-use Rattle.table_check.proofs.shapes.shape_word.Reads as shape-word-reads
 
 abbrev Inv-loop : tie.InvT-loop
 Inv-loop policy rules out₀ n k₀ out k = (k ≤ n) × ((length out ≡ 128) × ShapedBelow policy out k)

@@ -13,9 +13,9 @@ use Rattle.words.proofs.First.{first-start, first-hit, first-more, first-done}
 use Rattle.format.specs.Block.{block, blocks}
 use Rattle.format.specs.Policy.{Policy}
 use Rattle.format.specs.Table.{tableBlockFault}
+use Rattle.format.specs.Code.{faultOf}
 use Rattle.table_check.specs.CheckParts.{shortBefore, tableFaultIn}
 use Rattle.table_check.specs.Shapes.{Shapes}
-use Rattle.format.specs.Code.{faultOf}
 use Rattle.table_check.proofs.TableBlock.{fault-of-block, short-more}
 use Rattle.table_check.proofs.tables.blocks_fault.Statement.{statement}
 use Rattle.table_check.proofs.tables.blocks_fault.Tie as tie
