@@ -2,6 +2,7 @@
 -- Assumes nothing.
 use Prim.Native.Nat.{ℕ, zero, suc, _+_, _<_}
 use native.Mathlib.Numerals.{add-one}
+use native.Mathlib.Decide.{decLt}
 use native.Mathlib.Omega.{arith}
 use mathlib.Core.Path.{_≡_, refl, sym, ap₂, _∙_}
 use mathlib.Core.Bool.{Bool, true, false, _||_}
@@ -22,6 +23,19 @@ pub sumBelow-same : (n : ℕ) (f g : ℕ → ℕ) → ((i : ℕ) → i < n → f
 unfolding sumBelow
 sumBelow-same zero f g h = refl
 sumBelow-same (suc n) f g h = rw (h n (omega arith), sumBelow-same n f g (λ i k. h i (omega arith)))
+
+-- one of the numbers is so much more, and so is their sum
+pub sum-raised :
+    (j : ℕ) (f g : ℕ → ℕ) (c n : ℕ) → j < n → ((i : ℕ) → (i ≡ j → ⊥) → f i ≡ g i) → f j ≡ g j + c → sumBelow n f ≡ sumBelow n g + c
+unfolding sumBelow
+sum-raised j f g c zero l h e = absurd (omega arith)
+sum-raised j f g c (suc n) l h e = go (λ k. sum-raised j f g c n k h e) (decLt j n)
+  where
+    go : (j < n → sumBelow n f ≡ sumBelow n g + c) → Dec (j < n) → sumBelow n f + f n ≡ sumBelow n g + g n + c
+    go ih (yes k) = rw (h n (λ s. omega arith), ih k) (omega arith)
+    go ih (no k) =
+        let s : n ≡ j = omega arith in
+        rw (sumBelow-same n f g (λ i m. h i (λ t. omega arith))) (rw (s, e) (omega arith))
 
 -- a search that is left at the first that passes: at a number that does, and at the next; and its end
 pub any-hit : (f : ℕ → Bool) (k n : ℕ) (x : Bool) → k < n → x ≡ f k → x ≡ true → true ≡ anyBelow n f

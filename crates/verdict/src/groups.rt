@@ -1,9 +1,10 @@
 // The groups of the records that step 3 counts: four numbers a group, as the definitions have them.
 ghost use mathlib.Core.Path.{_≡_};
-ghost use mathlib.Core.Bool.{true};
+ghost use mathlib.Core.Bool.{true, _&&_};
 ghost use mathlib.Core.Option.{none};
-ghost use Prim.Native.Nat.{_+_, _-_, _*_, _≤_};
-ghost use lib.ListN.{length};
+ghost use Prim.Native.Nat.{_+_, _-_, _*_, _<_, _≤_};
+ghost use lib.ListN.{length, set};
+ghost use lib.Dec.{eqb};
 ghost use lib.Bits.{bitAnd};
 ghost use Rattle.words.specs.Bytes.{u32At, part};
 ghost use Rattle.format.specs.Request.{roles as rolesIs};
@@ -11,7 +12,7 @@ ghost use Rattle.format.specs.Policy.{policyFault, policyOf, ruleCount};
 ghost use Rattle.format.specs.Place.{recordsHere};
 ghost use Rattle.judge.specs.Tally.{sameUser};
 ghost use Rattle.places.specs.Masks.{apartBy};
-ghost use Rattle.verdict.specs.Code.{GroupsFit, Behind, Grown, doneWord, HasRoom, fittingIn, Scanned};
+ghost use Rattle.verdict.specs.Code.{sharedOf, rolesOf, doneOf, timesOf, GroupsFit, Behind, Grown, doneWord, HasRoom, fittingIn, Scanned};
 use crate::tallies::Privilege;
 use crate::tallies::done_at;
 use format::number::User;
@@ -43,26 +44,76 @@ fn put_group(groups: &mut [u32], g: usize, shared: u32, roles: u32, done: Privil
     groups[4 * g + 3] = 1;
 }
 
-// One record more.
-fn add(groups: &mut [u32], g: usize, shared: u32, roles: u32, done: Privilege) -> usize
-    requires { ⌜ 4 * g + 4 ≤ length (now groups) ⌝ }
-    ensures { λ r. ⌜ Grown true shared roles (done .0) (now (groups .entry)) g (now (groups .exit)) r ⌝ }
+// One record more in group j.
+fn raise(groups: &mut [u32], j: usize)
+    requires { ⌜ (4 * j + 4 ≤ length (now groups)) × (timesOf (now groups) j < 65536) ⌝ }
+    ensures { λ r. ⌜ now (groups .exit) ≡ set (now (groups .entry)) (4 * j + 3) (timesOf (now (groups .entry)) j + 1) ⌝ }
 {
+    groups[4 * j + 3] = groups[4 * j + 3] + 1;
+}
+
+// Group j is of records like this one.
+fn alike(groups: &[u32], j: usize, shared: u32, roles: u32, done: Privilege) -> bool
+    requires { ⌜ 4 * j + 4 ≤ length (now groups) ⌝ }
+    ensures { λ r. ⌜ r ≡ eqb (sharedOf (now (groups .entry)) j) shared && eqb (rolesOf (now (groups .entry)) j) roles && eqb (doneOf (now (groups .entry)) j) (done .0) ⌝ }
+{
+    (groups[4 * j] == shared) & (groups[4 * j + 1] == roles) & (groups[4 * j + 2] == done.0)
+}
+
+// Where the hint to a group of such records stands. 509 is prime: roles and privileges that differ little are still told apart.
+fn hint_at(shared: u32, roles: u32, done: Privilege) -> usize
+    ensures { λ r. ⌜ r < 512 ⌝ }
+{
+    ((done.0 % 509 + 7 * (roles % 509) + 11 * (shared % 509)) % 509) as usize
+}
+
+// A hint as an index.
+fn index(hint: u16) -> usize
+    ensures { λ r. ⌜ r ≡ hint ⌝ }
+{
+    hint as usize
+}
+
+// One record more: in the group to which the hint points if that is of records like it, and otherwise in a group of its own. A hint
+// may point anywhere: it is looked at again.
+fn add(
+    groups: &mut [u32],
+    g: usize,
+    hints: &mut [u16],
+    shared: u32,
+    roles: u32,
+    done: Privilege,
+) -> usize
+    requires { ⌜ GroupsFit (now groups) g ⌝ }
+    requires { ⌜ (4 * g + 4 ≤ length (now groups)) × (g < 65536) × (length (now hints) ≡ 512) ⌝ }
+    ensures { λ r. ⌜ (length (now (hints .exit)) ≡ 512) × (Grown true shared roles (done .0) (now (groups .entry)) g (now (groups .exit)) r) ⌝ }
+{
+    let at = hint_at(shared, roles, done);
+    let j = index(hints[at]);
+    if j < g {
+        if alike(groups, j, shared, roles, done) {
+            raise(groups, j);
+            return g;
+        }
+    }
+    hints[at] = g as u16;
     put_group(groups, g, shared, roles, done);
     g + 1
 }
 
 // Takes in the record at a byte if it counts for some rule and is this user's. The answer is how many groups there are then.
-pub fn take_in(
+fn take_in(
     groups: &mut [u32],
     g: usize,
+    hints: &mut [u16],
     shared: u32,
     who: User,
     table: &[u8],
     at: usize,
 ) -> usize
-    requires { ⌜ (4 * g + 4 ≤ length (now groups)) × (at + 28 ≤ length (now table)) ⌝ }
-    ensures { λ r. ⌜ Grown (sameUser (who .0) (part (now (table .entry)) at 28)) shared (rolesIs (part (now (table .entry)) at 28)) (doneWord (part (now (table .entry)) at 28)) (now (groups .entry)) g (now (groups .exit)) r ⌝ }
+    requires { ⌜ GroupsFit (now groups) g ⌝ }
+    requires { ⌜ (4 * g + 4 ≤ length (now groups)) × (g < 65536) × (length (now hints) ≡ 512) × (at + 28 ≤ length (now table)) ⌝ }
+    ensures { λ r. ⌜ (length (now (hints .exit)) ≡ 512) × (Grown (sameUser (who .0) (part (now (table .entry)) at 28)) shared (rolesIs (part (now (table .entry)) at 28)) (doneWord (part (now (table .entry)) at 28)) (now (groups .entry)) g (now (groups .exit)) r) ⌝ }
 {
     if shared == 0 {
         return g;
@@ -70,15 +121,27 @@ pub fn take_in(
     if !same_user(table, at, who) {
         return g;
     }
-    add(groups, g, shared, roles(table, at), done_at(table, at))
+    add(
+        groups,
+        g,
+        hints,
+        shared,
+        roles(table, at),
+        done_at(table, at),
+    )
 }
 
-// The rules of a mask for which the record at a byte is marked and stands in the request's run place.
+// The rules of a mask for which the record at a byte is marked and stands in the request's run place. The marks come first: they often
+// decide.
 fn shared_at(each: Each, mask: u32, q: &[u8], table: &[u8], at: usize) -> u32
     requires { ⌜ (length (now q) ≡ 28) × (at + 32 ≤ length (now table)) ⌝ }
     ensures { λ r. ⌜ r ≡ bitAnd (u32At (now (table .entry)) (at + 28)) mask - bitAnd (bitAnd (u32At (now (table .entry)) (at + 28)) mask) (apartBy each (now (q .entry)) (part (now (table .entry)) at 28)) ⌝ }
 {
-    without(u32_at(table, at + 28) & mask, apart(each, q, table, at))
+    let marks = u32_at(table, at + 28) & mask;
+    if marks == 0 {
+        return 0;
+    }
+    without(marks, apart(each, q, table, at))
 }
 
 // What a pass over the records finds: the rules whose run place is open, and how many groups there are.
@@ -96,9 +159,10 @@ pub fn scan(
     table: &[u8],
     n: usize,
     groups: &mut [u32],
+    hints: &mut [u16],
 ) -> Seen
     requires { ⌜ (policyFault (now policy) ≡ none) × (rules ≡ ruleCount (now policy)) × (fitting ≡ fittingIn (policyOf (now policy)) (now q)) ⌝ }
-    requires { ⌜ (length (now q) ≡ 28) × (4 * n ≤ length (now groups)) ⌝ }
+    requires { ⌜ (length (now q) ≡ 28) × (4 * n ≤ length (now groups)) × (length (now hints) ≡ 512) ⌝ }
     requires { ⌜ HasRoom (now table) n ⌝ }
     ensures { λ r. ⌜ (GroupsFit (now (groups .exit)) (r .groups)) × (Scanned (policyOf (now (policy .entry))) (now (q .entry)) fitting (r .opens) (now (groups .exit)) (r .groups) (recordsHere (now (table .entry)) n)) ⌝ }
 {
@@ -110,7 +174,7 @@ pub fn scan(
         let at = record_place(k);
         let shared = shared_at(each, fitting, q, table, at);
         opens = opens | shared;
-        g = take_in(groups, g, shared, who, table, at);
+        g = take_in(groups, g, hints, shared, who, table, at);
     }
     Seen { opens, groups: g }
 }

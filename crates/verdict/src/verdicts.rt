@@ -104,13 +104,14 @@ fn judged(
     table: &[u8],
     n: usize,
     groups: &mut [u32],
+    hints: &mut [u16],
 ) -> Verdict
     requires { ⌜ (policyFault (now policy) ≡ none) × (rules ≡ ruleCount (now policy)) × (fitting ≡ fittingIn (policyOf (now policy)) (now q)) ⌝ }
-    requires { ⌜ (length (now q) ≡ 28) × (4 * n ≤ length (now groups)) × (permittedBy (policyOf (now policy)) (now q) ≡ true) ⌝ }
+    requires { ⌜ (length (now q) ≡ 28) × (4 * n ≤ length (now groups)) × (length (now hints) ≡ 512) × (permittedBy (policyOf (now policy)) (now q) ≡ true) ⌝ }
     requires { ⌜ HasRoom (now table) n ⌝ }
     ensures { λ r. ⌜ VerdictIs (policyOf (now (policy .entry))) (recordsHere (now (table .entry)) n) (now (q .entry)) (faultOf (r .fault)) (r .judging) ⌝ }
 {
-    let found = scan(policy, rules, fitting, q, table, n, groups);
+    let found = scan(policy, rules, fitting, q, table, n, groups, hints);
     let mask = judging(policy, rules, q, fitting, found.opens);
     let failing = first_failing(policy, rules, mask, q, groups, found.groups);
     Verdict {
@@ -119,7 +120,7 @@ fn judged(
     }
 }
 
-// The same with room for the groups: a table of few records does not pay for many.
+// The same with room for the groups and hints: a table of few records does not pay for many.
 fn judged_few(policy: &[u8], rules: u32, fitting: u32, q: &[u8], table: &[u8], n: usize) -> Verdict
     requires { ⌜ (policyFault (now policy) ≡ none) × (rules ≡ ruleCount (now policy)) × (fitting ≡ fittingIn (policyOf (now policy)) (now q)) ⌝ }
     requires { ⌜ (length (now q) ≡ 28) × (n ≤ 60) × (permittedBy (policyOf (now policy)) (now q) ≡ true) ⌝ }
@@ -127,7 +128,17 @@ fn judged_few(policy: &[u8], rules: u32, fitting: u32, q: &[u8], table: &[u8], n
     ensures { λ r. ⌜ VerdictIs (policyOf (now (policy .entry))) (recordsHere (now (table .entry)) n) (now (q .entry)) (faultOf (r .fault)) (r .judging) ⌝ }
 {
     let mut groups = [0u32; 240];
-    judged(policy, rules, fitting, q, table, n, &mut groups[0..240])
+    let mut hints = [0u16; 512];
+    judged(
+        policy,
+        rules,
+        fitting,
+        q,
+        table,
+        n,
+        &mut groups[0..240],
+        &mut hints[0..512],
+    )
 }
 
 fn judged_many(policy: &[u8], rules: u32, fitting: u32, q: &[u8], table: &[u8], n: usize) -> Verdict
@@ -137,7 +148,17 @@ fn judged_many(policy: &[u8], rules: u32, fitting: u32, q: &[u8], table: &[u8], 
     ensures { λ r. ⌜ VerdictIs (policyOf (now (policy .entry))) (recordsHere (now (table .entry)) n) (now (q .entry)) (faultOf (r .fault)) (r .judging) ⌝ }
 {
     let mut groups = [0u32; 7680];
-    judged(policy, rules, fitting, q, table, n, &mut groups[0..7680])
+    let mut hints = [0u16; 512];
+    judged(
+        policy,
+        rules,
+        fitting,
+        q,
+        table,
+        n,
+        &mut groups[0..7680],
+        &mut hints[0..512],
+    )
 }
 
 // Steps 1 to 3 over the n records of a table. A request that fits no rule is done after step 1.
