@@ -24,7 +24,7 @@ use Rattle.table_write.proofs.TableWritten.{image-at, image-kept}
 use Rattle.update.specs.Cleared.{clearedBy, leftBy, Compacted, afterBy}
 use Rattle.update.specs.Standing.{Holds}
 use Rattle.update.proofs.Standing.{same-room}
-use Rattle.update.proofs.Compaction.{sweep-none, sweep-one, length-here, length-swept}
+use Rattle.update.proofs.Compaction.{sweep-none, sweep-one, length-here, length-swept, left-any}
 
 -- ---- blocks that no record left or came to
 
@@ -46,6 +46,11 @@ module _ (t : Sums) (s s′ : List ℕ) (n n′ : ℕ) (bytes : Every Byte s) (l
       }
 
 -- ---- the records
+
+-- where no rule ends, the masks do not matter
+pub after-any : (e e′ : Each) (q : Request) (ends gives : ℕ) (rs : List Record) → ends ≡ 0 → afterBy e q ends gives rs ≡ afterBy e′ q ends gives rs
+unfolding afterBy
+after-any e e′ q ends gives rs z = rw z (ap (λ xs. xs ++ sweep (record { request = q; marks = gives } ∷ [])) (left-any e e′ q rs))
 
 module _ (e : Each) (q : Request) (ends : ℕ) where
   after-none : (gives : ℕ) (rs : List Record) → gives ≡ 0 → afterBy e q ends gives rs ≡ leftBy e q ends rs
