@@ -1,4 +1,4 @@
--- The table that each of the three ways of writing leaves.
+-- The table after a grant: its records and their number, and the blocks that need not be written.
 -- Assumes nothing.
 use Prim.Native.Nat.{ℕ, _+_, _*_, _/_, _<_, _≤_, max}
 use native.Mathlib.Omega.{arith}
@@ -22,9 +22,9 @@ use Rattle.table_write.specs.Writing.{countIn, imageBlock, ImageOutside}
 use Rattle.table_write.proofs.Places.{recordPut, length-put, records-more, block-kept}
 use Rattle.table_write.proofs.TableWritten.{image-at, image-kept}
 use Rattle.update.specs.Cleared.{clearedBy, leftBy, Compacted, afterBy}
-use Rattle.update.specs.Standing.{Holds, AllMarked}
+use Rattle.update.specs.Standing.{Holds}
 use Rattle.update.proofs.Standing.{same-room}
-use Rattle.update.proofs.Compaction.{sweep-none, sweep-one, length-here, length-swept, left-all}
+use Rattle.update.proofs.Compaction.{sweep-none, sweep-one, length-here, length-swept, left-any}
 
 -- ---- blocks that no record left or came to
 
@@ -45,29 +45,12 @@ module _ (t : Sums) (s s′ : List ℕ) (n n′ : ℕ) (bytes : Every Byte s) (l
         behind = λ k lo hi. kept-image k (omega (arith, same)) (behind k (omega arith)) (omega arith);
       }
 
--- outside the block that gets the request
-pub one-block :
-    (t : Sums) (s s′ : List ℕ) (n : ℕ) (q : List ℕ) (m : ℕ) → Every Byte s → length s ≡ blockBytes * blocks s → n < capacity (blocks s)
-    → length q ≡ requestBytes → s ≡ tableImage t (blocks s) (recordsHere s n) → s′ ≡ recordPut s n q m
-    → ImageOutside t s′ (n + 1) (n / blockRecords) (n / blockRecords + 1)
-one-block t s s′ n q m bytes long inside sized image put =
-    let same : length s′ ≡ length s = ap length put ∙ length-put s (blocks s) long n inside q sized m in
-    let kept : (k : ℕ) → (k ≡ n / blockRecords → ⊥) → block s′ k ≡ block s k =
-    λ k apart. ap (λ (l : List ℕ). block l k) put ∙ block-kept s (blocks s) long n inside q sized m k apart in
-    let e : n / blockRecords + 1 ≡ (max n (n + 1) + 14) / blockRecords = omega arith in
-    rw e
-    (outside t s s′ n (n + 1) bytes long (omega arith) image same n (omega arith) (omega arith) (λ k b. kept k (λ z. omega arith)) (λ k b. kept k (λ z. omega arith)))
-
-pub image-recorded :
-    (t : Sums) (s s′ s″ : List ℕ) (n : ℕ) (q : List ℕ) (m : ℕ) → m < 4294967296 → length s ≡ blockBytes * blocks s → n < capacity (blocks s)
-    → length q ≡ requestBytes → s′ ≡ recordPut s n q m → length s′ ≡ length s → s″ ≡ tableImage t (blocks s′) (recordsHere s′ (n + 1))
-    → s″ ≡ tableImage t (blocks s) (recordsHere s n ++ (record { request = q; marks = m } ∷ []))
-image-recorded t s s′ s″ n q m small long inside sized put same e =
-    e
-    ∙ ap₂ {C = List ℕ} (tableImage t) (ap (λ (x : ℕ). x / blockBytes) same)
-    (ap (λ (l : List ℕ). recordsHere l (n + 1)) put ∙ records-more s (blocks s) long n inside q sized m small)
-
 -- ---- the records
+
+-- where no rule ends, the masks do not matter
+pub after-any : (e e′ : Each) (q : Request) (ends gives : ℕ) (rs : List Record) → ends ≡ 0 → afterBy e q ends gives rs ≡ afterBy e′ q ends gives rs
+unfolding afterBy
+after-any e e′ q ends gives rs z = rw z (ap (λ xs. xs ++ sweep (record { request = q; marks = gives } ∷ [])) (left-any e e′ q rs))
 
 module _ (e : Each) (q : Request) (ends : ℕ) where
   after-none : (gives : ℕ) (rs : List Record) → gives ≡ 0 → afterBy e q ends gives rs ≡ leftBy e q ends rs
@@ -99,7 +82,7 @@ module _ (e : Each) (q : Request) (ends : ℕ) where
         length-swept (record { request = q; marks = gives }),
       )
 
-  -- ---- where a rule ends
+  -- ---- the table
 
   module _ {s t₁ : List ℕ} {from n held : ℕ} (c : Compacted e q ends s from n t₁ held) where
     pub length-none : (gives : ℕ) → gives ≡ 0 → held ≡ length (afterBy e q ends gives (recordsHere s n))
@@ -154,19 +137,12 @@ module _ (e : Each) (q : Request) (ends : ℕ) where
             ∙ ap (λ (rs : List Record). rs ++ (record { request = q; marks = gives } ∷ [])) (c .records)
             ∙ sym (after-one gives (recordsHere s n) z))
 
--- ---- where no rule ends
+-- ---- where no record changes
 
-module _ (s : List ℕ) (n : ℕ) (marked : AllMarked s n) (e : Each) (q : Request) (ends gives : ℕ) (z : ends ≡ 0) where
-  front-stays : leftBy e q ends (recordsHere s n) ≡ recordsHere s n
-  front-stays = rw z (left-all e q (recordsHere s n) marked)
-
+module _ (e : Each) (q : Request) (ends gives : ℕ) (s : List ℕ) (n : ℕ) (stay : leftBy e q ends (recordsHere s n) ≡ recordsHere s n) where
   pub stay-none : gives ≡ 0 → afterBy e q ends gives (recordsHere s n) ≡ recordsHere s n
-  stay-none w = after-none e q ends gives (recordsHere s n) w ∙ front-stays
-
-  pub stay-one : (gives ≡ 0 → ⊥) → afterBy e q ends gives (recordsHere s n) ≡ recordsHere s n ++ (record { request = q; marks = gives } ∷ [])
-  stay-one w =
-      after-one e q ends gives (recordsHere s n) w
-      ∙ ap (λ (rs : List Record). rs ++ (record { request = q; marks = gives } ∷ [])) front-stays
+  stay-none z = after-none e q ends gives (recordsHere s n) z ∙ stay
 
   pub stay-length : (gives ≡ 0 → ⊥) → n + 1 ≡ length (afterBy e q ends gives (recordsHere s n))
-  stay-length w = sym (after-count e q ends gives (recordsHere s n) w ∙ ap (λ (rs : List Record). length rs + 1) front-stays ∙ ap (λ (m : ℕ). m + 1) (length-here s n))
+  stay-length z =
+      sym (after-count e q ends gives (recordsHere s n) z ∙ ap (λ (rs : List Record). length rs + 1) stay ∙ ap (λ (m : ℕ). m + 1) (length-here s n))

@@ -58,20 +58,23 @@ length-swept r = go (eqb (r .marks) 0)
     go true = refl
     go false = refl
 
-module _ (e : Each) (q : Request) where
-  -- where no rule ends, records with marks stay as they are
-  same-records : (rs : List Record) → map (clearedBy e q 0) rs ≡ rs
-  unfolding clearedBy keptMarks
-  same-records [] = refl
-  same-records (r ∷ rs) =
-      ap₂ {C = List Record} (λ m xs. record { request = r .request; marks = m } ∷ xs) (go (r .marks) (bitAnd 0 (apartBy e q (r .request)))) (same-records rs)
-    where
-      go : (m a : ℕ) → m - bitAnd m (0 - a) ≡ m
-      go m a = let z : 0 - a ≡ 0 = omega arith in rw (z, and-zero-r m) (omega arith)
+-- where no rule ends, records with marks stay as they are, whatever the masks
+same-records : (e : Each) (q : Request) (rs : List Record) → map (clearedBy e q 0) rs ≡ rs
+unfolding clearedBy keptMarks
+same-records e q [] = refl
+same-records e q (r ∷ rs) =
+    ap₂ {C = List Record} (λ m xs. record { request = r .request; marks = m } ∷ xs) (go (r .marks) (bitAnd 0 (apartBy e q (r .request)))) (same-records e q rs)
+  where
+    go : (m a : ℕ) → m - bitAnd m (0 - a) ≡ m
+    go m a = let z : 0 - a ≡ 0 = omega arith in rw (z, and-zero-r m) (omega arith)
 
-  pub left-all : (rs : List Record) → sweep rs ≡ rs → leftBy e q 0 rs ≡ rs
-  unfolding leftBy
-  left-all rs h = rw (same-records rs) h
+pub left-all : (e : Each) (q : Request) (rs : List Record) → sweep rs ≡ rs → leftBy e q 0 rs ≡ rs
+unfolding leftBy
+left-all e q rs h = rw (same-records e q rs) h
+
+pub left-any : (e e′ : Each) (q : Request) (rs : List Record) → leftBy e q 0 rs ≡ leftBy e′ q 0 rs
+unfolding leftBy
+left-any e e′ q rs = ap sweep (same-records e q rs ∙ sym (same-records e′ q rs))
 
 module _ (e : Each) (q : Request) (ends : ℕ) where
   pub left-start : (s : List ℕ) → leftBy e q ends (recordsHere s 0) ≡ []

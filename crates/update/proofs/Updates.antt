@@ -2,12 +2,12 @@
 -- Assumes nothing.
 use Prim.Native.Nat.{ℕ, _+_, _-_, _*_, _^_, _≤_, _<_}
 use native.Mathlib.Omega.{arith}
-use mathlib.Core.Path.{_≡_, sym, ap, ap₂, _∙_}
+use mathlib.Core.Path.{_≡_, refl, sym, ap, ap₂, _∙_}
 use mathlib.Core.Bool.{Bool, true, false, cond, not}
 use mathlib.Core.List.{List, [], _∷_}
 use lib.ListN.{length}
 use lib.Dec.{eqb, leb}
-use borrow.Author.Tests.{not-true, not-false, leb-true}
+use borrow.Author.Tests.{eqb-true, eqb-false, not-true, not-false, leb-true}
 use Rattle.words.specs.Bytes.{bit, bits}
 use Rattle.words.specs.Sums.{Sums}
 use Rattle.words.proofs.Bits.{bit-bits}
@@ -15,14 +15,14 @@ use Rattle.words.proofs.Every.{Every, every-both, every-weaken}
 use Rattle.format.specs.Answer.{Answer, grant, refuse, refusal, Outcome}
 use Rattle.format.specs.Layout.{capacity}
 use Rattle.format.specs.Block.{blocks}
-use Rattle.format.specs.Policy.{policyOf, stamp}
+use Rattle.format.specs.Policy.{Policy, policyOf, stamp}
 use Rattle.format.specs.Table.{Record, goodRecord, recordsOf, tableImage}
 use Rattle.format.specs.Place.{recordsHere}
 use Rattle.format.proofs.RecordImage.{Whole}
 use Rattle.judge.specs.Verdict.{judges}
 use Rattle.judge.specs.NewTable.{openIn, recordOf, sweep, tableAfter}
 use Rattle.places.specs.declared.masks.Each.{Each}
-use Rattle.places.specs.Masks.{EachOf}
+use Rattle.places.specs.Masks.{eachAt, EachOf}
 use Rattle.places.proofs.Apart.{apart-is}
 use Rattle.update.specs.Cleared.{Given, endsBy, givesBy, afterBy}
 use Rattle.update.specs.Updating.{judgingOf, updateOf}
@@ -30,9 +30,17 @@ use Rattle.update.proofs.Policies.{rules-of, few-of}
 use Rattle.update.proofs.Standing.{Standing}
 use Rattle.update.proofs.Marks.{marks-below}
 use Rattle.update.proofs.Compaction.{length-here, length-swept}
-use Rattle.update.proofs.AfterLaws.{after-few}
+use Rattle.update.proofs.AfterLaws.{after-any, after-few}
 use Rattle.update.proofs.Judged.{parts-add, record-same, after-same}
 use Rattle.update.proofs.Outcomes.{grant-numbers, full, fits-in}
+
+-- a policy's masks
+eachOf : Policy → Each
+eachOf p = record { first = eachAt p 0; second = eachAt p 1; third = eachAt p 2; fourth = eachAt p 3 }
+
+each-of : (p : Policy) → EachOf p (eachOf p)
+unfolding eachOf
+each-of p = record { at-first = refl; at-second = refl; at-third = refl; at-fourth = refl }
 
 module _ {policy : List ℕ} {rules : ℕ} {q : List ℕ} {t : Sums} {s : List ℕ} {n judging ends : ℕ} (g : Given policy rules q)
     (st : Standing policy t s n) (is : judging ≡ judgingOf policy s q) (es : ends ≡ bits rules (endsBy (policyOf policy) q judging)) where
@@ -62,23 +70,32 @@ module _ {policy : List ℕ} {rules : ℕ} {q : List ℕ} {t : Sums} {s : List �
       ∙ sym (length-swept (record { request = q; marks = bits (policyOf policy .rules) (givesBy (policyOf policy) q judging) }))
       ∙ ap (λ (r : Record). length (sweep (r ∷ []))) (record-same (policyOf policy) q (openIn (policyOf policy) (recordsOf s) q) judging agree)
 
-  -- the masks that the code makes of the policy
-  module _ {e : Each} (masks : EachOf (policyOf policy) e) where
-    below : Every (λ r. r .marks < 2 ^ policyOf policy .rules) (recordsOf s)
-    below =
-        rw (← st .here)
-        (every-weaken (λ r h. marks-below (policyOf policy) (few-of g) r (h .0) (h .1 .marks-fit))
-        (every-both (λ r. goodRecord (policyOf policy) r ≡ true) Whole (st .good) (st .whole)))
+  below : Every (λ r. r .marks < 2 ^ policyOf policy .rules) (recordsOf s)
+  below =
+      rw (← st .here)
+      (every-weaken (λ r h. marks-below (policyOf policy) (few-of g) r (h .0) (h .1 .marks-fit))
+      (every-both (λ r. goodRecord (policyOf policy) r ≡ true) Whole (st .good) (st .whole)))
 
+  after-by : (e : Each) → EachOf (policyOf policy) e → afterBy e q ends (judging - ends) (recordsHere s n) ≡ tableAfter (policyOf policy) (recordsOf s) q
+  unfolding tableAfter
+  after-by e masks =
+      ap₂ {C = List Record} (λ x m. afterBy e q x m (recordsHere s n)) ends-are gives-are
+      ∙ ap
+      (afterBy e q (bits (policyOf policy .rules) (endsBy (policyOf policy) q judging))
+      (bits (policyOf policy .rules) (givesBy (policyOf policy) q judging)))
+      (st .here)
+      ∙ after-same (policyOf policy) q (openIn (policyOf policy) (recordsOf s) q) judging agree e (apart-is policy (g .accepted) e masks q) below
+
+  -- the masks that the code makes of the policy, where a rule ends
+  module _ {e : Each} (masks : (ends ≡ 0 → ⊥) → EachOf (policyOf policy) e) where
     after-is : afterBy e q ends (judging - ends) (recordsHere s n) ≡ tableAfter (policyOf policy) (recordsOf s) q
-    unfolding tableAfter
-    after-is =
-        ap₂ {C = List Record} (λ x m. afterBy e q x m (recordsHere s n)) ends-are gives-are
-        ∙ ap
-        (afterBy e q (bits (policyOf policy .rules) (endsBy (policyOf policy) q judging))
-        (bits (policyOf policy .rules) (givesBy (policyOf policy) q judging)))
-        (st .here)
-        ∙ after-same (policyOf policy) q (openIn (policyOf policy) (recordsOf s) q) judging agree e (apart-is policy (g .accepted) e masks q) below
+    after-is = go (eqb ends 0) refl
+      where
+        go : (b : Bool) → eqb ends 0 ≡ b → afterBy e q ends (judging - ends) (recordsHere s n) ≡ tableAfter (policyOf policy) (recordsOf s) q
+        go true z =
+            after-any e (eachOf (policyOf policy)) q ends (judging - ends) (recordsHere s n) (eqb-true ends 0 z)
+            ∙ after-by (eachOf (policyOf policy)) (each-of (policyOf policy))
+        go false z = after-by e (masks (eqb-false ends 0 z))
 
     pub held-few : {held : ℕ} → held ≡ length (afterBy e q ends (judging - ends) (recordsHere s n)) → held ≤ n + cond (eqb (judging - ends) 0) 0 1
     held-few is = omega (arith, after-few e q ends (judging - ends) (recordsHere s n), length-here s n)

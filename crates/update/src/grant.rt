@@ -3,15 +3,19 @@ ghost use mathlib.Core.Path.{_≡_};
 ghost use mathlib.Core.Bool.{cond};
 ghost use Prim.Native.Nat.{ℕ, _+_, _-_, _≤_};
 ghost use mathlib.Core.List.{List};
+ghost use mathlib.Core.Option.{none};
 ghost use lib.Dec.{eqb};
 ghost use Rattle.words.specs.Code.{sumsOf};
 ghost use Rattle.format.specs.Answer.{grant, Outcome};
+ghost use Rattle.format.specs.Policy.{policyFault, policyOf, ruleCount};
+ghost use Rattle.places.specs.Masks.{EachOf};
 ghost use Rattle.update.specs.Cleared.{Given};
 ghost use Rattle.update.specs.Standing.{Stands};
 ghost use Rattle.update.specs.Updating.{answerOf, judgingOf, updateOf};
 use crate::clearing::ending;
 use crate::room::has_room;
 use crate::table_after::write_after;
+use places::masks::Each;
 use places::masks::each_of;
 use words::sum::Sum;
 
@@ -47,6 +51,22 @@ fn granted(n: usize, gives: u32, held: usize) -> Updated
     })
 }
 
+// The masks that tell run places apart. Where no rule ends, no record is cleared, and any will do.
+fn masks(policy: &[u8], rules: u32, ends: u32) -> Each
+    requires { ⌜ (policyFault (now policy) ≡ none) × (rules ≡ ruleCount (now policy)) ⌝ }
+    ensures { λ r. ⌜ ((ends ≡ 0 → ⊥) → EachOf (policyOf (now (policy .entry))) r) ⌝ }
+{
+    if ends == 0 {
+        return Each {
+            first: 0,
+            second: 0,
+            third: 0,
+            fourth: 0,
+        };
+    }
+    each_of(policy, rules)
+}
+
 // The table after a request that steps 1 to 3 let pass, by the rules that judge it.
 pub fn update(
     policy: &[u8],
@@ -64,7 +84,7 @@ pub fn update(
 {
     let ends = ending(policy, rules, q, judging);
     let gives = judging - ends;
-    let each = each_of(policy, rules);
+    let each = masks(policy, rules, ends);
     if !has_room(each, q, table, n, ends, gives) {
         return Updated::Full;
     }

@@ -1,7 +1,7 @@
 // The table after a grant: the records that keep a mark move to the front, and the request is put behind them. Only blocks that
 // change are written.
 ghost use mathlib.Core.Path.{_≡_};
-ghost use mathlib.Core.List.{[], _∷_, _++_};
+ghost use mathlib.Core.List.{_++_};
 ghost use Prim.Native.Nat.{_+_, _*_, _/_, _<_, _≤_, max};
 ghost use lib.ListN.{length};
 ghost use Rattle.words.specs.Bytes.{bytes4};
@@ -34,12 +34,15 @@ fn keeps_all(each: Each, q: &[u8], table: &[u8], n: usize, i: usize, ends: u32) 
     (marks != 0) & (cleared_marks(each, q, table, at, ends) == marks)
 }
 
-// The first record that loses a mark, or n: those before it stay as they are.
+// The first record that loses a mark, or n: those before it stay as they are. Where no rule ends, none is looked at.
 pub fn first_changed(each: Each, q: &[u8], table: &[u8], n: usize, ends: u32) -> usize
     requires { ⌜ length (now q) ≡ 28 ⌝ }
-    requires { ⌜ Holds (now table) n ⌝ }
+    requires { ⌜ (Holds (now table) n) × (AllMarked (now table) n) ⌝ }
     ensures { λ r. ⌜ (r ≤ n) × (leftBy each (now (q .entry)) ends (recordsHere (now (table .entry)) r) ≡ recordsHere (now (table .entry)) r) ⌝ }
 {
+    if ends == 0 {
+        return n;
+    }
     for i in 0..n {
         if !keeps_all(each, q, table, n, i, ends) {
             return i;
@@ -110,44 +113,6 @@ fn seal_changed(table: &mut [u8], stamp: Sum, first: usize, n: usize, held: usiz
     seal_blocks(table, stamp, held, first / 15, taken(n, held));
 }
 
-// Where no rule ends: only the block that gets the request is written.
-fn write_recorded(stamp: Sum, q: &[u8], table: &mut [u8], n: usize, gives: u32)
-    requires { ⌜ (length (now table) ≡ 512 * blocks (now table)) × (blocks (now table) ≤ 128) ⌝ }
-    requires { ⌜ (n < 15 * blocks (now table)) × (length (now q) ≡ 28) ⌝ }
-    requires { ⌜ now table ≡ tableImage (sumsOf stamp) (blocks (now table)) (recordsHere (now table) n) ⌝ }
-    ensures { λ r. ⌜ now (table .exit) ≡ tableImage (sumsOf stamp) (blocks (now (table .entry))) (recordsHere (now (table .entry)) n ++ (record { request = now (q .entry); marks = gives } ∷ [])) ⌝ }
-{
-    append(table, n, q, gives);
-    seal_blocks(table, stamp, n + 1, n / 15, n / 15 + 1);
-}
-
-// Where a rule ends: records go and move.
-fn write_cleared(
-    each: Each,
-    stamp: Sum,
-    q: &[u8],
-    table: &mut [u8],
-    n: usize,
-    ends: u32,
-    gives: u32,
-) -> usize
-    requires { ⌜ length (now q) ≡ 28 ⌝ }
-    requires { ⌜ Holds (now table) n ⌝ }
-    requires { ⌜ now table ≡ tableImage (sumsOf stamp) (blocks (now table)) (recordsHere (now table) n) ⌝ }
-    requires { ⌜ length (afterBy each (now q) ends gives (recordsHere (now table) n)) ≤ 15 * blocks (now table) ⌝ }
-    ensures { λ r. ⌜ (now (table .exit) ≡ tableImage (sumsOf stamp) (blocks (now (table .entry))) (afterBy each (now (q .entry)) ends gives (recordsHere (now (table .entry)) n))) × (r ≡ length (afterBy each (now (q .entry)) ends gives (recordsHere (now (table .entry)) n))) ⌝ }
-{
-    let first = first_changed(each, q, table, n, ends);
-    let held = compact(each, q, table, first, n, ends);
-    if gives == 0 {
-        seal_changed(table, stamp, first, n, held);
-        return held;
-    }
-    append(table, held, q, gives);
-    seal_changed(table, stamp, first, n, held + 1);
-    held + 1
-}
-
 // Writes the table after a grant, and says how many records it holds.
 pub fn write_after(
     each: Each,
@@ -164,12 +129,16 @@ pub fn write_after(
     requires { ⌜ length (afterBy each (now q) ends gives (recordsHere (now table) n)) ≤ 15 * blocks (now table) ⌝ }
     ensures { λ r. ⌜ (now (table .exit) ≡ tableImage (sumsOf stamp) (blocks (now (table .entry))) (afterBy each (now (q .entry)) ends gives (recordsHere (now (table .entry)) n))) × (r ≡ length (afterBy each (now (q .entry)) ends gives (recordsHere (now (table .entry)) n))) ⌝ }
 {
-    if ends != 0 {
-        return write_cleared(each, stamp, q, table, n, ends, gives);
-    }
-    if gives == 0 {
+    let first = first_changed(each, q, table, n, ends);
+    if (first == n) & (gives == 0) {
         return n;
     }
-    write_recorded(stamp, q, table, n, gives);
-    n + 1
+    let held = compact(each, q, table, first, n, ends);
+    if gives == 0 {
+        seal_changed(table, stamp, first, n, held);
+        return held;
+    }
+    append(table, held, q, gives);
+    seal_changed(table, stamp, first, n, held + 1);
+    held + 1
 }

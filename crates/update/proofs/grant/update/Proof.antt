@@ -21,8 +21,8 @@ sub-gives c =
     let s = k .before .before .before in
     omega (arith, ends-few (s .pre .0) (stand k) (s .pre .1 .1) (c .ending .ensures))
 
-each-of-requires : tie.Need-each-of-requires
-each-of-requires c κs = let s = c .before .before .before .before in (s .pre .0 .accepted, s .pre .0 .rules-are)
+masks-requires : tie.Need-masks-requires
+masks-requires c κs = let s = c .before .before .before .before in (s .pre .0 .accepted, s .pre .0 .rules-are)
 
 has-room-requires : tie.Need-has-room-requires
 has-room-requires c κs =
@@ -40,7 +40,7 @@ returns c =
     let e = x .before in
     let k = e .before in
     let s = k .before .before .before in
-    no-room (s .pre .0) (stand k) (s .pre .1 .1) (e .ending .ensures) (x .each-of .ensures) (h .has-room .ensures) (c .if1 .taken)
+    no-room (s .pre .0) (stand k) (s .pre .1 .1) (e .ending .ensures) (x .masks .ensures) (h .has-room .ensures) (c .if1 .taken)
 
 write-after-requires : tie.Need-write-after-requires
 write-after-requires c κs =
@@ -54,7 +54,7 @@ write-after-requires c κs =
       s .pre .0 .sized,
       (
         (st .holds, st .marked),
-        (st .image, room-fits (s .pre .0) st (s .pre .1 .1) (e .ending .ensures) (x .each-of .ensures) (h .has-room .ensures) (d .if1 .left)),
+        (st .image, room-fits (s .pre .0) st (s .pre .1 .1) (e .ending .ensures) (x .masks .ensures) (h .has-room .ensures) (d .if1 .left)),
       ),
     )
 
@@ -67,7 +67,7 @@ granted-requires c κs =
     let k = e .before in
     let s = k .before .before .before in
     let st = stand k in
-    (omega (arith, st .holds), held-few (s .pre .0) st (s .pre .1 .1) (e .ending .ensures) (x .each-of .ensures) (w .write-after .ensures .1))
+    (omega (arith, st .holds), held-few (s .pre .0) st (s .pre .1 .1) (e .ending .ensures) (x .masks .ensures) (w .write-after .ensures .1))
 
 same-length-2 : tie.Need-same-length-2
 same-length-2 c = search needs
@@ -81,7 +81,7 @@ returns-2 c =
     let e = x .before in
     let k = e .before in
     let s = k .before .before .before in
-    granted-is (s .pre .0) (stand k) (s .pre .1 .1) (e .ending .ensures) (x .each-of .ensures) (h .has-room .ensures) (d .if1 .left) (s .pre .1 .0 .stamp-is)
+    granted-is (s .pre .0) (stand k) (s .pre .1 .1) (e .ending .ensures) (x .masks .ensures) (h .has-room .ensures) (d .if1 .left) (s .pre .1 .0 .stamp-is)
     (w .write-after .ensures .0) (w .write-after .ensures .1) (c .granted .ensures)
 
 pub update-spec : {M : Type 1} → statement M
@@ -90,7 +90,7 @@ update-spec =
     (tie.spec
     ending-requires
     sub-gives
-    each-of-requires
+    masks-requires
     has-room-requires
     same-length
     returns

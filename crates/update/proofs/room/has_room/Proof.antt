@@ -3,13 +3,13 @@
 use Prim.Native.Nat.{ℕ, _*_}
 use native.Mathlib.Numerals.{add-one}
 use native.Mathlib.Omega.{arith}
-use mathlib.Core.Path.{sym}
+use mathlib.Core.Path.{_≡_, sym}
 use lib.ListN.{length}
 use borrow.Author.Tests.{le-leb, lt-leb}
 use Rattle.format.specs.Block.{blocks}
 use Rattle.format.specs.Place.{recordsHere}
-use Rattle.update.specs.Cleared.{afterBy}
-use Rattle.update.proofs.Compaction.{length-here}
+use Rattle.update.specs.Cleared.{leftBy, afterBy}
+use Rattle.update.proofs.Compaction.{length-here, left-all}
 use Rattle.update.proofs.AfterLaws.{after-few, after-count, stay-length}
 use Rattle.update.proofs.Outcomes.{recorded-none, recorded-one}
 use borrow.Author.Needs.{needs}
@@ -59,8 +59,10 @@ returns-3 c =
     let k = e .before in
     let s = k .before .before in
     let a = s .args in
+    let stay : leftBy (a .each) (a .q .now) (a .ends) (recordsHere (a .table .now) (a .n)) ≡ recordsHere (a .table .now) (a .n) =
+    rw (c .if3 .taken) (left-all (a .each) (a .q .now) (recordsHere (a .table .now) (a .n)) (s .pre .1 .1)) in
     sym (lt-leb (held k) (15 * blocks (a .table .now))
-    (omega (arith, stay-length (a .table .now) (a .n) (s .pre .1 .1) (a .each) (a .q .now) (a .ends) (a .gives) (c .if3 .taken) (e .if1 .left), c .before .if2 .left)))
+    (omega (arith, stay-length (a .each) (a .q .now) (a .ends) (a .gives) (a .table .now) (a .n) stay (e .if1 .left), c .before .if2 .left)))
 
 kept-requires : tie.Need-kept-requires
 kept-requires c κs = let s = c .before .before .before .before .before in (s .pre .0, s .pre .1 .0)

@@ -6,7 +6,7 @@ use mathlib.Core.Path.{_≡_, sym, _∙_}
 use borrow.Author.Tests.{not-false}
 use Rattle.format.specs.Place.{recordsHere}
 use Rattle.update.specs.Cleared.{leftBy}
-use Rattle.update.proofs.Compaction.{stays-start, stays-more}
+use Rattle.update.proofs.Compaction.{left-all, stays-start, stays-more}
 use borrow.Author.Needs.{needs}
 use Rattle.update.proofs.table_after.first_changed.Statement.{statement}
 use Rattle.update.proofs.table_after.first_changed.Tie as tie
@@ -17,14 +17,20 @@ Inv-loop each q table n ends i₀ i = (i ≤ n) × (leftBy each q ends (recordsH
 abbrev μ-loop : tie.MeasureT-loop
 μ-loop each q table n ends i₀ i = n - i
 
+returns : tie.Need-returns Inv-loop μ-loop
+returns c =
+    let s = c .before .before .before in
+    let a = s .args in
+    (omega arith, rw (c .if1 .taken) (left-all (a .each) (a .q .now) (recordsHere (a .table .now) (a .n)) (s .pre .1 .1)))
+
 loop-holds : tie.Need-loop-holds Inv-loop μ-loop
-loop-holds c = let a = c .before .before .args in (omega arith, stays-start (a .each) (a .q .now) (a .ends) (a .table .now))
+loop-holds c = let a = c .before .before .before .args in (omega arith, stays-start (a .each) (a .q .now) (a .ends) (a .table .now))
 
 keeps-all-requires : tie.Need-keeps-all-requires Inv-loop μ-loop
-keeps-all-requires c κs = let s = c .before .before .before .before in ((s .pre .0, omega arith), s .pre .1)
+keeps-all-requires c κs = let s = c .before .before .before .before .before in ((s .pre .0, omega arith), s .pre .1 .0)
 
-returns : tie.Need-returns Inv-loop μ-loop
-returns c = c .before .before .before .loop .inv
+returns-2 : tie.Need-returns-2 Inv-loop μ-loop
+returns-2 c = c .before .before .before .loop .inv
 
 add-i : tie.Need-add-i Inv-loop μ-loop
 add-i c = search needs
@@ -36,12 +42,12 @@ loop-again : tie.Need-loop-again Inv-loop μ-loop
 loop-again c =
     let k = c .before in
     let l = k .before .before .loop in
-    let a = k .before .before .before .before .before .args in
-    (omega arith, stays-more (a .each) (a .q .now) (a .ends) (a .table .now) (l .i) (l .inv .1) (sym (k .keeps-all .ensures) ∙ not-false (k .keeps-all .result) (c .if1 .left)))
+    let a = k .before .before .before .before .before .before .args in
+    (omega arith, stays-more (a .each) (a .q .now) (a .ends) (a .table .now) (l .i) (l .inv .1) (sym (k .keeps-all .ensures) ∙ not-false (k .keeps-all .result) (c .if2 .left)))
 
-returns-2 : tie.Need-returns-2 Inv-loop μ-loop
-returns-2 c =
-    let a = c .before .before .before .before .args in
+returns-3 : tie.Need-returns-3 Inv-loop μ-loop
+returns-3 c =
+    let a = c .before .before .before .before .before .args in
     let e : c .before .loop .i ≡ a .n = omega arith in
     rw (← e) (omega arith, c .before .loop .inv .1)
 
@@ -51,10 +57,11 @@ first-changed-spec =
     (tie.spec
     Inv-loop
     μ-loop
+    returns
     loop-holds
     keeps-all-requires
-    returns
+    returns-2
     add-i
     loop-less
     loop-again
-    returns-2)
+    returns-3)
