@@ -1,11 +1,6 @@
-pub mod Filled
-pub mod Sums
 pub mod Cut
 pub mod AnyOf
-pub mod Privileges
 pub mod GroupLaws
-pub mod Counts
-pub mod Exclusions
 pub mod AcceptedEntries
 pub mod Permissions
 pub mod Standing

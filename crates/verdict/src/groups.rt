@@ -12,9 +12,8 @@ ghost use Rattle.format.specs.Policy.{policyFault, policyOf, ruleCount};
 ghost use Rattle.format.specs.Place.{recordsHere};
 ghost use Rattle.judge.specs.Tally.{sameUser};
 ghost use Rattle.places.specs.Masks.{apartBy};
-ghost use Rattle.verdict.specs.Code.{sharedOf, rolesOf, doneOf, timesOf, GroupsFit, Behind, Grown, doneWord, HasRoom, fittingIn, Scanned};
-use crate::tallies::Privilege;
-use crate::tallies::done_at;
+ghost use Rattle.tally.specs.Groups.{sharedOf, rolesOf, doneOf, timesOf, GroupsFit, doneWord};
+ghost use Rattle.verdict.specs.Code.{Behind, Grown, HasRoom, fittingIn, Scanned};
 use format::number::User;
 use places::masks::Each;
 use places::masks::apart;
@@ -23,6 +22,8 @@ use places::masks::without;
 use table_check::request::roles;
 use table_check::request::user;
 use table_write::write::record_place;
+use tally::tallies::Privilege;
+use tally::tallies::done_at;
 use words::field::u32_at;
 
 // The request at a byte is this user's.

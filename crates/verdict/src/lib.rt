@@ -2,5 +2,4 @@
 pub mod groups;
 pub mod permits;
 pub mod rules;
-pub mod tallies;
 pub mod verdicts;

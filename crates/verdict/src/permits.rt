@@ -8,10 +8,10 @@ ghost use Rattle.format.specs.Block.{kind};
 ghost use Rattle.format.specs.Policy.{policyFault, policyOf, permissionAt};
 ghost use Rattle.judge.specs.Verdict.{grants as grantsOf, permitted as permittedBy};
 ghost use Rattle.verdict.specs.Code.{entriesOf, EntriesFit};
-use crate::tallies::done_at;
-use crate::tallies::has_role;
 use format::number::Role;
 use table_check::request::roles;
+use tally::tallies::done_at;
+use tally::tallies::has_role;
 use words::field::u16_at;
 use words::field::u32_at;
 

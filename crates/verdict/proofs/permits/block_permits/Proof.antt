@@ -1,7 +1,7 @@
 -- `verdict::permits::block_permits` meets its contract: the flag is the test over the entries passed.
 -- Assumes nothing.
 use Rattle.verdict.proofs.Permissions.{no-entries, some-entry}
-use Rattle.verdict.proofs.Sums.{any-more, any-all}
+use Rattle.tally.proofs.Sums.{any-more, any-all}
 use Rattle.judge.specs.Verdict.{grants}
 use Rattle.format.specs.Policy.{permissionAt}
 use Rattle.words.specs.Lists.{anyBelow}

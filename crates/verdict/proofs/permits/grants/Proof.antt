@@ -1,6 +1,6 @@
 -- `verdict::permits::grants` meets its contract.
 -- Assumes nothing.
-use Rattle.verdict.specs.Code.{doneWord}
+use Rattle.tally.specs.Groups.{doneWord}
 use Rattle.words.specs.Bytes.{bit}
 use lib.Dec.{eqb}
 use mathlib.Core.Bool.{Bool, _&&_}

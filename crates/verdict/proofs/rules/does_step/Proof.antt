@@ -1,8 +1,8 @@
 -- `verdict::rules::does_step` meets its contract.
 -- Assumes nothing.
 use Rattle.words.specs.Bytes.{byteAt}
-use Rattle.verdict.proofs.Privileges.{does-word}
-use Rattle.verdict.specs.Code.{doneWord}
+use Rattle.tally.proofs.Privileges.{does-word}
+use Rattle.tally.specs.Groups.{doneWord}
 use Rattle.format.specs.Request.{Request}
 use lib.Seq.{take-all}
 use lib.Dec.{eqb}
