@@ -1,5 +1,4 @@
-pub mod BlankParts
+pub mod BlankLevel
 pub mod BlockFields
-pub mod ByKind
 pub mod PolicyBlock
 pub mod Sized

@@ -2,7 +2,7 @@
 -- Assumes nothing.
 use borrow.Author.Tests.{lt-ltb, le-ltb}
 use borrow.Author.Needs.{needs}
-use Rattle.policy_check.proofs.BlankParts.{blank-level}
+use Rattle.policy_check.proofs.BlankLevel.{blank-level}
 use Rattle.policy_check.proofs.rule.good_level_of.Statement.{statement}
 use Rattle.policy_check.proofs.rule.good_level_of.Tie as tie
 

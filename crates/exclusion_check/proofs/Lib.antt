@@ -1,0 +1,3 @@
+pub mod BlankParts
+pub mod ByKind
+pub mod Sized
