@@ -16,7 +16,7 @@ use format::answer::Fault;
 use format::answer::Refusal;
 use policy_check::policy::policy_fault;
 use policy_check::policy::rule_count;
-use table_check::request::request_fault;
+use request_check::request::request_fault;
 use table_check::tables::record_count;
 use table_check::tables::table_fault;
 use update::grant::Updated;

@@ -17,8 +17,8 @@ use Rattle.format.specs.Rule.{ruleAt}
 use Rattle.format.specs.Fits.{samePlace}
 use Rattle.format.specs.Policy.{Policy, policyFault, policyOf}
 use Rattle.format.proofs.AcceptedPolicy.{depth-few}
-use Rattle.table_check.specs.CheckParts.{sameAt}
-use Rattle.table_check.proofs.Levels.{same-place}
+use Rattle.request_check.specs.Levels.{sameAt}
+use Rattle.request_check.proofs.Levels.{same-place}
 use Rattle.places.specs.declared.masks.Each.{Each}
 use Rattle.places.specs.Masks.{isEach, eachAt, EachOf, apartIn, apartBy}
 

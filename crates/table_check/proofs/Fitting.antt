@@ -26,9 +26,9 @@ use Rattle.format.specs.Policy.{Policy, policyFault, policyOf, ruleCount}
 use Rattle.format.specs.Table.{goodMarks, goodRecord}
 use Rattle.format.specs.Place.{recordFrom}
 use Rattle.format.proofs.AcceptedPolicy.{rule-good}
-use Rattle.table_check.specs.CheckParts.{fitsAt, fitsBelow}
+use Rattle.request_check.specs.Levels.{fitsAt, fitsBelow}
 use Rattle.table_check.specs.Shapes.{levelWant, levelMask, paired, shapeWord, Shapes, shapeFits, markFits, marksFit}
-use Rattle.table_check.proofs.Levels.{type-word, value-word}
+use Rattle.request_check.proofs.Levels.{type-word, value-word}
 
 -- ---- numbers of two parts
 

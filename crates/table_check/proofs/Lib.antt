@@ -1,5 +1,3 @@
-pub mod Levels
 pub mod Fitting
-pub mod RequestWords
 pub mod Here
 pub mod TableBlock

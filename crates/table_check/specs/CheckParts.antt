@@ -1,35 +1,19 @@
--- Parts of the tests of a request and of a table that a function of the code computes.
+-- Parts of the test of a table that a function of the code computes.
 -- Assumes nothing.
 use Prim.Native.Nat.{ℕ, _+_, _-_, _*_}
-use mathlib.Core.Bool.{Bool, not, _&&_, _||_}
+use mathlib.Core.Bool.{Bool, not, _&&_}
 use mathlib.Core.List.{List}
 use mathlib.Core.Option.{Option}
 use lib.Dec.{eqb, leb, ltb}
-use Rattle.words.specs.Lists.{allBelow, anyBelow}
+use Rattle.words.specs.Lists.{anyBelow}
 use Rattle.words.specs.First.{_orElse_, unless, first}
 use Rattle.words.specs.Bytes.{zeroFrom}
 use Rattle.words.specs.Sums.{Sums}
 use Rattle.format.specs.Answer.{Refusal, refusal}
 use Rattle.format.specs.Layout.{tableKind, recordsAt, recordBytes, blockRecords}
 use Rattle.format.specs.Block.{block, kind, number, total, goodCheck}
-use Rattle.format.specs.Request.{Request, contextOf, levelType, levelValue}
-use Rattle.format.specs.Rule.{Rule}
-use Rattle.format.specs.Fits.{levelFits}
 use Rattle.format.specs.Policy.{Policy}
 use Rattle.format.specs.Table.{count, recordAt, goodRecord, goodStamp}
-
--- ---- fitting
-
--- the request has at level i what the rule asks there; and at its first n levels
-abbrev pub fitsAt : Rule → Request → ℕ → Bool
-fitsAt r q i = levelFits (r .level i) (levelType (contextOf q) i) (levelValue (contextOf q) i)
-
-abbrev pub fitsBelow : Rule → Request → ℕ → Bool
-fitsBelow r q n = allBelow n (fitsAt r q)
-
--- two requests agree at level i, if the run place takes it in
-abbrev pub sameAt : Rule → Request → Request → ℕ → Bool
-sameAt r q p i = not (eqb (r .level i .mark) 3) || eqb (levelValue (contextOf q) i) (levelValue (contextOf p) i)
 
 -- ---- a table block: block k of n with the bytes b, and whether some block before it has fewer records than it has places
 

@@ -1,3 +1,2 @@
 pub mod CheckParts
-pub mod RequestWords
 pub mod Shapes

@@ -7,8 +7,8 @@ ghost use Rattle.format.specs.Policy.{Policy};
 ghost use Rattle.format.specs.Table.{goodRecord};
 ghost use Rattle.format.specs.Place.{recordFrom};
 ghost use Rattle.table_check.specs.Shapes.{Shapes, marksFit};
-use crate::request::good_request;
 use crate::shapes::mark_fits;
+use request_check::request::good_request;
 use words::field::u32_at;
 
 // The two words at a place as one number.

@@ -14,8 +14,9 @@ use Rattle.words.specs.Bytes.{bit}
 use Rattle.words.specs.Lists.{tab, sumBelow}
 use Rattle.words.proofs.Lists.{length-tab, getD-tab, tab-cong}
 use Rattle.format.specs.Request.{Request, roles}
-use Rattle.tally.specs.Groups.{sharedOf, rolesOf, doneOf, timesOf, rolesIn, timesIn, GroupsFit, rolesTaken, addDone, doneIn, doneTaken, doneWord, listedWord, repeatsWord, memberCounts}
-use Rattle.tally.proofs.Totals.{times-few, times-among, records-mono}
+use Rattle.request_check.specs.RequestWords.{doneWord}
+use Rattle.tally.specs.Code.{sharedOf, rolesOf, doneOf, timesOf, rolesIn, timesIn, GroupsFit, rolesTaken, addDone, doneIn, doneTaken, listedWord, repeatsWord, memberCounts}
+use Rattle.tally.proofs.Groups.{times-few, times-among, records-mono}
 
 -- ---- the roles
 

@@ -18,10 +18,11 @@ use Rattle.words.proofs.Tests.{both-first, both-second, allBelow-at}
 use Rattle.format.specs.Request.{Request, roles, hasRole}
 use Rattle.format.specs.Rule.{Exclusion, exclusionAt, samePrivilege, blankPrivilege, goodExclusion, goodRoles, goodPrivileges}
 use Rattle.judge.specs.Tally.{roleTally, timesListed, timesDone, repeats, privilegeTally, tally}
-use Rattle.tally.specs.Groups.{timesIn, membersAt, memberWord, rolesAmong, doneTaken, doneWord, listedWord, repeatsWord, memberCounts, membersCount, tallyIn}
+use Rattle.request_check.specs.RequestWords.{doneWord}
+use Rattle.tally.specs.Code.{timesIn, membersAt, memberWord, rolesAmong, doneTaken, listedWord, repeatsWord, memberCounts, membersCount, tallyIn}
 use Rattle.tally.proofs.Sums.{sumBelow-same}
 use Rattle.tally.proofs.Counts.{doneTaken-at}
-use Rattle.tally.proofs.Privileges.{OfBytes, does-word, same-word}
+use Rattle.request_check.proofs.Privileges.{OfBytes, does-word, same-word}
 
 -- ---- what the check of an exclusion says of it
 

@@ -1,6 +1,5 @@
 pub mod Filled
 pub mod Sums
-pub mod Totals
-pub mod Privileges
+pub mod Groups
 pub mod Counts
 pub mod Exclusions

@@ -4,18 +4,16 @@ ghost use mathlib.Core.Bool.{true, cond};
 ghost use Prim.Native.Nat.{ℕ, _+_, _-_, _*_, _<_, _≤_};
 ghost use lib.ListN.{length, getD, replicate};
 ghost use lib.Bits.{bitOr};
-ghost use Rattle.words.specs.Bytes.{u16At, part, bit as bitOf};
+ghost use Rattle.words.specs.Bytes.{u16At, bit as bitOf};
 ghost use Rattle.format.specs.Rule.{exclusionAt, goodExclusion};
-ghost use Rattle.tally.specs.Groups.{GroupsFit, doneWord, membersAt, rolesTaken, rolesAmong, addDone, doneTaken, listedWord, repeatsWord, memberCounts, membersCount, tallyIn, reachedIn};
+ghost use Rattle.tally.specs.Code.{GroupsFit, membersAt, rolesTaken, rolesAmong, addDone, doneTaken, listedWord, repeatsWord, memberCounts, membersCount, tallyIn, reachedIn};
 use format::number::Role;
-use table_check::request::roles;
+use exclusion_check::privilege;
+use exclusion_check::privilege::Privilege;
+use request_check::request;
 use words::field::bit;
 use words::field::u16_at;
-use words::field::u32_at;
 use words::field::wide;
-
-// A step's operation and target in one number, as their bytes stand: operation + 65536 * target.
-pub struct Privilege(pub u32);
 
 // What the records taken in so far come to: all their active roles, and how often each of eight privileges was done.
 pub struct Tally {
@@ -24,7 +22,7 @@ pub struct Tally {
 }
 
 // The number, or 0: a count without a branch.
-fn number_if(b: bool, x: u32) -> u32
+pub fn number_if(b: bool, x: u32) -> u32
     ensures { λ r. ⌜ (r ≡ cond b x 0) × (r ≤ x) ⌝ }
 {
     if b { x } else { 0 }
@@ -71,14 +69,6 @@ impl Tally {
     }
 }
 
-// The privilege of the request that stands at a byte.
-pub fn done_at(s: &[u8], at: usize) -> Privilege
-    requires { ⌜ at + 28 ≤ length (now s) ⌝ }
-    ensures { λ r. ⌜ r .0 ≡ doneWord (part (now (s .entry)) at 28) ⌝ }
-{
-    Privilege(u32_at(s, at + 8))
-}
-
 // The eight members of an exclusion, each in one number. Those past its number are there too, and are not looked at.
 fn members(b: &[u8], e: usize) -> [u32; 8]
     requires { ⌜ (length (now b) ≡ 512) × (e < 8) ⌝ }
@@ -86,7 +76,7 @@ fn members(b: &[u8], e: usize) -> [u32; 8]
 {
     let mut words = [0u32; 8];
     for i in 0..8usize {
-        words[i] = u32_at(b, 60 + 36 * e + 4 * i);
+        words[i] = privilege::read(b, 60 + 36 * e + 4 * i).0;
     }
     words
 }
@@ -102,7 +92,7 @@ pub fn take_roles(groups: &[u32], g: usize, i: u32, q: &[u8]) -> Tally
         let shared = bit(groups[4 * j], i);
         tally = tally.add_roles(number_if(shared, groups[4 * j + 1]));
     }
-    tally.add_roles(roles(q, 0))
+    tally.add_roles(request::roles(q, 0))
 }
 
 // Takes in the groups that count for rule i, then the request, by their privileges.
@@ -117,7 +107,7 @@ fn take_privileges(members: &[u32; 8], groups: &[u32], g: usize, i: u32, q: &[u8
         let times = number_if(shared, groups[4 * j + 3]);
         tally = tally.add_privilege(members, Privilege(groups[4 * j + 2]), times);
     }
-    tally.add_privilege(members, done_at(q, 0), 1)
+    tally.add_privilege(members, request::privilege(q, 0), 1)
 }
 
 // How many of an exclusion's n member roles are among these.

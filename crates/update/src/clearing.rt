@@ -3,26 +3,16 @@ ghost use mathlib.Core.Path.{_≡_};
 ghost use Prim.Native.Nat.{_+_, _<_, _≤_};
 ghost use lib.ListN.{length};
 ghost use Rattle.words.specs.Bytes.{bits};
-ghost use Rattle.format.specs.Rule.{ruleAt};
 ghost use Rattle.format.specs.Policy.{policyOf};
 ghost use Rattle.format.specs.Place.{recordFrom};
-ghost use Rattle.judge.specs.Verdict.{isLast};
 ghost use Rattle.update.specs.Cleared.{Given, endsBy, clearedBy};
 use places::masks::Each;
 use places::masks::apart;
 use places::masks::without;
+use request_check::steps::is_last;
 use words::field::bit;
 use words::field::flag;
-use words::field::u16_at;
 use words::field::u32_at;
-
-// The request is the last step of the rule.
-fn is_last(b: &[u8], q: &[u8]) -> bool
-    requires { ⌜ (length (now b) ≡ 512) × (length (now q) ≡ 28) ⌝ }
-    ensures { λ r. ⌜ r ≡ isLast (ruleAt (now (b .entry))) (now (q .entry)) ⌝ }
-{
-    (b[11] == 1) & ((u16_at(q, 8) == u16_at(b, 52)) & (u16_at(q, 10) == u16_at(b, 54)))
-}
 
 // Rule i judges, and the request is its last step.
 fn ends_here(policy: &[u8], rules: u32, q: &[u8], judging: u32, i: u32) -> bool

@@ -14,11 +14,11 @@ use Rattle.format.specs.Block.{blocks, block, kind}
 use Rattle.format.specs.Request.{Request, roles, operation, target, hasRole}
 use Rattle.format.specs.Policy.{policyOf, permissionAt, permissionsAt, entries}
 use Rattle.judge.specs.Verdict.{grants, permitted}
-use Rattle.tally.specs.Groups.{doneWord}
+use Rattle.request_check.specs.RequestWords.{doneWord}
 use Rattle.verdict.specs.Code.{entriesOf}
 use Rattle.tally.proofs.Sums.{any-hit, any-miss, any-none}
 use Rattle.verdict.proofs.AnyOf.{any-tab, any-flatten}
-use Rattle.tally.proofs.Privileges.{OfBytes, halves}
+use Rattle.request_check.proofs.Privileges.{OfBytes, halves}
 
 and-assoc : (x y z : Bool) → x && (y && z) ≡ x && y && z
 and-assoc true y z = refl

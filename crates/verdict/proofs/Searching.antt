@@ -19,7 +19,7 @@ use Rattle.format.specs.Rule.{exclusionAt, goodExclusion}
 use Rattle.format.specs.Policy.{policyFault, ruleCount}
 use Rattle.format.proofs.AcceptedPolicy.{rule-inside}
 use Rattle.judge.specs.Tally.{exclusionNumber}
-use Rattle.tally.specs.Groups.{rolesTaken, reachedIn}
+use Rattle.tally.specs.Code.{rolesTaken, reachedIn}
 use Rattle.verdict.specs.Code.{failsIn, ruleFails, maskFails, failingOf, FoundIn}
 use Rattle.verdict.specs.declared.verdicts.Failing.{Failing}
 use Rattle.verdict.specs.declared.verdicts.Failing.the-variants.{At}

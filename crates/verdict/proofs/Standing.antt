@@ -29,7 +29,8 @@ use Rattle.places.specs.declared.masks.Each.{Each}
 use Rattle.places.specs.Masks.{EachOf, apartIn, apartBy}
 use Rattle.places.proofs.Apart.{apart-is}
 use Rattle.table_write.proofs.Parts.{tab-more}
-use Rattle.tally.specs.Groups.{rolesIn, timesIn, doneWord}
+use Rattle.request_check.specs.RequestWords.{doneWord}
+use Rattle.tally.specs.Code.{rolesIn, timesIn}
 use Rattle.verdict.specs.Code.{HasRoom, Grown, fittingIn, countsFor, Scanned}
 use Rattle.words.proofs.Bits.{bit-none, bit-bits, bit-beyond}
 use Rattle.words.proofs.BitLaws.{bit-or, bit-and, bit-without}

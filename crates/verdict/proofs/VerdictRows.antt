@@ -29,10 +29,11 @@ use Rattle.format.specs.Place.{recordPlace, recordHere, recordsHere}
 use Rattle.judge.specs.Tally.{sameUser, counted, reached, exclusionNumber}
 use Rattle.judge.specs.Verdict.{permitted, judges, failing, verdict}
 use Rattle.judge.specs.NewTable.{standsIn, openIn, pastIn}
-use Rattle.tally.specs.Groups.{rolesIn, timesIn, doneWord, rolesTaken, reachedIn}
+use Rattle.request_check.specs.RequestWords.{doneWord}
+use Rattle.tally.specs.Code.{rolesIn, timesIn, rolesTaken, reachedIn}
 use Rattle.verdict.specs.Code.{fittingIn, judgingBy, judgingIn, countsFor, Scanned, failsIn, ruleFails, maskFails, VerdictIs}
 use Rattle.verdict.proofs.AcceptedEntries.{exclusion-fits}
-use Rattle.tally.proofs.Privileges.{OfBytes, part-bytes}
+use Rattle.request_check.proofs.Privileges.{OfBytes, part-bytes}
 use Rattle.tally.proofs.Exclusions.{n-most, tally-same}
 use Rattle.verdict.proofs.Standing.{bit-fits}
 

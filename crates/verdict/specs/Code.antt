@@ -18,14 +18,15 @@ use Rattle.format.specs.Rule.{exclusionAt}
 use Rattle.format.specs.Fits.{fits}
 use Rattle.format.specs.Policy.{Policy, Permission, permissionAt, entries}
 use Rattle.format.specs.Table.{Record}
-use Rattle.tally.specs.Groups.{sharedOf, rolesOf, doneOf, timesOf, rolesIn, timesIn, recordsIn, doneWord, rolesTaken, reachedIn}
+use Rattle.request_check.specs.RequestWords.{doneWord}
 use Rattle.judge.specs.Tally.{sameUser, exclusionNumber}
 use Rattle.judge.specs.Verdict.{judges, verdict}
 use Rattle.judge.specs.NewTable.{standsIn, openIn, pastIn}
+use Rattle.tally.specs.Code.{sharedOf, rolesOf, doneOf, timesOf, rolesIn, timesIn, recordsIn, rolesTaken, reachedIn}
 use Rattle.verdict.specs.declared.verdicts.Failing.{Failing}
 use Rattle.verdict.specs.declared.verdicts.Failing.the-variants.{Nowhere, At}
 
--- ---- one record more in the groups
+-- ---- a record more in the groups
 
 -- group g is written, of one record, and those before it are as they were
 pub record Behind (shared roles done : ℕ) (old : List ℕ) (g : ℕ) (new : List ℕ) : Type 0 where

@@ -12,26 +12,25 @@ ghost use Rattle.format.specs.Policy.{policyFault, policyOf, ruleCount};
 ghost use Rattle.format.specs.Place.{recordsHere};
 ghost use Rattle.judge.specs.Tally.{sameUser};
 ghost use Rattle.places.specs.Masks.{apartBy};
-ghost use Rattle.tally.specs.Groups.{sharedOf, rolesOf, doneOf, timesOf, GroupsFit, doneWord};
+ghost use Rattle.request_check.specs.RequestWords.{doneWord};
+ghost use Rattle.tally.specs.Code.{sharedOf, rolesOf, doneOf, timesOf, GroupsFit};
 ghost use Rattle.verdict.specs.Code.{Behind, Grown, HasRoom, fittingIn, Scanned};
 use format::number::User;
 use places::masks::Each;
 use places::masks::apart;
 use places::masks::each_of;
 use places::masks::without;
-use table_check::request::roles;
-use table_check::request::user;
+use exclusion_check::privilege::Privilege;
+use request_check::request;
 use table_write::write::record_place;
-use tally::tallies::Privilege;
-use tally::tallies::done_at;
 use words::field::u32_at;
 
 // The request at a byte is this user's.
-fn same_user(s: &[u8], at: usize, who: User) -> bool
+pub fn same_user(s: &[u8], at: usize, who: User) -> bool
     requires { ⌜ at + 28 ≤ length (now s) ⌝ }
     ensures { λ r. ⌜ r ≡ sameUser (who .0) (part (now (s .entry)) at 28) ⌝ }
 {
-    user(s, at).0 == who.0
+    request::user(s, at).0 == who.0
 }
 
 // Puts group g, of one record, behind those that are there.
@@ -127,8 +126,8 @@ fn take_in(
         g,
         hints,
         shared,
-        roles(table, at),
-        done_at(table, at),
+        request::roles(table, at),
+        request::privilege(table, at),
     )
 }
 
@@ -168,7 +167,7 @@ pub fn scan(
     ensures { λ r. ⌜ (GroupsFit (now (groups .exit)) (r .groups)) × (Scanned (policyOf (now (policy .entry))) (now (q .entry)) fitting (r .opens) (now (groups .exit)) (r .groups) (recordsHere (now (table .entry)) n)) ⌝ }
 {
     let each = each_of(policy, rules);
-    let who = user(q, 0);
+    let who = request::user(q, 0);
     let mut opens = 0u32;
     let mut g = 0usize;
     for k in 0..n {

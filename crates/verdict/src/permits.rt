@@ -9,8 +9,8 @@ ghost use Rattle.format.specs.Policy.{policyFault, policyOf, permissionAt};
 ghost use Rattle.judge.specs.Verdict.{grants as grantsOf, permitted as permittedBy};
 ghost use Rattle.verdict.specs.Code.{entriesOf, EntriesFit};
 use format::number::Role;
-use table_check::request::roles;
-use tally::tallies::done_at;
+use exclusion_check::privilege;
+use request_check::request;
 use tally::tallies::has_role;
 use words::field::u16_at;
 use words::field::u32_at;
@@ -21,7 +21,8 @@ fn grants(b: &[u8], i: usize, q: &[u8]) -> bool
     requires { ⌜ (1 ≤ permissionAt (now b) i .role) × (permissionAt (now b) i .role ≤ 32) ⌝ }
     ensures { λ r. ⌜ r ≡ grantsOf (now (q .entry)) (permissionAt (now (b .entry)) i) ⌝ }
 {
-    has_role(roles(q, 0), Role(u16_at(b, 16 + 8 * i))) & (u32_at(b, 18 + 8 * i) == done_at(q, 0).0)
+    has_role(request::roles(q, 0), Role(u16_at(b, 16 + 8 * i)))
+        & (privilege::read(b, 18 + 8 * i).0 == request::privilege(q, 0).0)
 }
 
 // Some entry of a block does. A rule block has none.

@@ -2,36 +2,17 @@
 ghost use mathlib.Core.Path.{_≡_};
 ghost use mathlib.Core.Bool.{not, _&&_, _||_};
 ghost use mathlib.Core.Option.{none};
-ghost use Prim.Native.Nat.{_+_, _<_, _≤_};
+ghost use Prim.Native.Nat.{_<_};
 ghost use lib.ListN.{length};
-ghost use lib.Dec.{eqb};
-ghost use Rattle.words.specs.Bytes.{byteAt, bit as bitOf};
-ghost use Rattle.format.specs.Rule.{privilegeAt, ruleAt, isSet};
+ghost use Rattle.words.specs.Bytes.{bit as bitOf};
+ghost use Rattle.format.specs.Rule.{ruleAt, isSet};
 ghost use Rattle.format.specs.Policy.{policyFault, policyOf, ruleCount};
-ghost use Rattle.judge.specs.Tally.{does};
 ghost use Rattle.judge.specs.Verdict.{isFirst};
 ghost use Rattle.verdict.specs.Code.{fittingIn, judgingBy};
-use table_check::fits::fits;
-use tally::tallies::done_at;
+use request_check::fits::fits;
+use request_check::steps::is_first;
 use words::field::bit;
 use words::field::flag;
-use words::field::u32_at;
-
-// The step whose mark and whose privilege stand at two places of a rule's block is set, and the request does it.
-fn does_step(b: &[u8], mark: usize, at: usize, q: &[u8]) -> bool
-    requires { ⌜ (length (now b) ≡ 512) × (length (now q) ≡ 28) × (mark < 512) × (at + 4 ≤ 512) ⌝ }
-    ensures { λ r. ⌜ r ≡ eqb (byteAt (now (b .entry)) mark) 1 && does (privilegeAt (now (b .entry)) at) (now (q .entry)) ⌝ }
-{
-    (b[mark] == 1) & (done_at(q, 0).0 == u32_at(b, at))
-}
-
-// The request is the rule's first step.
-fn is_first(b: &[u8], q: &[u8]) -> bool
-    requires { ⌜ (length (now b) ≡ 512) × (length (now q) ≡ 28) ⌝ }
-    ensures { λ r. ⌜ r ≡ isFirst (ruleAt (now (b .entry))) (now (q .entry)) ⌝ }
-{
-    does_step(b, 10, 48, q)
-}
 
 // Rule i, whose block is b, judges: it fits, and it has no first step, or this is it, or the run place is open.
 fn rule_judges(b: &[u8], i: u32, fitting: u32, opens: u32, q: &[u8]) -> bool

@@ -10,7 +10,7 @@ ghost use Rattle.format.specs.Policy.{policyFault, policyOf, ruleCount};
 ghost use Rattle.format.specs.Place.{recordsHere};
 ghost use Rattle.format.specs.Code.{faultOf};
 ghost use Rattle.judge.specs.Verdict.{permitted as permittedBy};
-ghost use Rattle.tally.specs.Groups.{GroupsFit};
+ghost use Rattle.tally.specs.Code.{GroupsFit};
 ghost use Rattle.verdict.specs.Code.{HasRoom, fittingIn, maskFails, failingOf, FoundIn, VerdictIs};
 use crate::groups::scan;
 use crate::permits::permitted;

@@ -30,11 +30,11 @@ bits-fit n f h = omega (arith, bits-below n f, pow-mono {i = n} {j = 32} h)
 
 -- ---- one number: the lowest bit, and the others are those of the half
 
-bit-low : (x : ℕ) → bit 0 x ≡ eqb (x % 2) 1
+pub bit-low : (x : ℕ) → bit 0 x ≡ eqb (x % 2) 1
 unfolding bit
 bit-low x = let e : x / 2 ^ 0 ≡ x = omega arith in rw e
 
-bit-half : (i x : ℕ) → bit (suc i) x ≡ bit i (x / 2)
+pub bit-half : (i x : ℕ) → bit (suc i) x ≡ bit i (x / 2)
 unfolding bit
 bit-half i x = ap (λ (z : ℕ). eqb (z % 2) 1) (ap (λ (k : ℕ). x / 2 ^ k) (sym (one-add i)) ∙ sym (shr-shr x 1 i))
 

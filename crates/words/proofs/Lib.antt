@@ -13,6 +13,5 @@ pub mod Zeros
 pub mod Bits
 pub mod Fours
 pub mod BitLaws
-pub mod Halves
 pub mod Lowest
 pub mod Sums

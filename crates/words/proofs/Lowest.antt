@@ -2,7 +2,6 @@
 -- Assumes nothing.
 use Prim.Native.Nat.{ℕ, zero, suc, _+_, _-_, _*_, _/_, _%_, _^_, _<_, min}
 use native.Mathlib.Nat.{pow-suc}
-use native.Mathlib.Numerals.{one-add}
 use native.Mathlib.Omega.{arith}
 use mathlib.Core.Path.{_≡_, refl, sym, ap, _∙_}
 use mathlib.Core.Bool.{Bool, true, false, not, _&&_, _||_, and-true}
@@ -10,9 +9,9 @@ use borrow.Author.Tests.{eq-eqb, ne-eqb, eqb-true}
 use lib.Bits.{bitAnd, and-step, and-self}
 use lib.Count.{trailingZeros, under}
 use lib.Dec.{eqb, eqb·suc-zero, eqb·suc-suc}
-use lib.Pow.{shr-shr}
 use Rattle.words.specs.Lists.{allBelow}
 use Rattle.words.specs.Bytes.{bit, bits}
+use Rattle.words.proofs.BitLaws.{bit-low, bit-half}
 use Rattle.words.proofs.Bits.{bit-beyond}
 use Rattle.words.proofs.Tests.{allBelow-true, allBelow-at, allBelow-same}
 
@@ -23,18 +22,11 @@ pub record Lowest (x i y : ℕ) : Type 0 where
   pub set : bit i x ≡ true
   pub rest : (j : ℕ) → bit j y ≡ bit j x && not (eqb j i)
 
-bit-half : (i x y : ℕ) → x / 2 ≡ y → bit (suc i) x ≡ bit i y
-unfolding bit
-bit-half i x y e =
-    ap (λ (z : ℕ). eqb (z % 2) 1) (ap (λ (k : ℕ). x / 2 ^ k) (sym (one-add i)) ∙ sym (shr-shr x 1 i) ∙ ap (λ (z : ℕ). z / 2 ^ i) e)
-
 odd-bit : (x : ℕ) → x % 2 ≡ 1 → bit 0 x ≡ true
-unfolding bit
-odd-bit x e = eq-eqb (x / 2 ^ 0 % 2) 1 (omega arith)
+odd-bit x e = bit-low x ∙ eq-eqb (x % 2) 1 e
 
 even-bit : (x : ℕ) → x % 2 ≡ 0 → bit 0 x ≡ false
-unfolding bit
-even-bit x e = ne-eqb (x / 2 ^ 0 % 2) 1 (λ h. omega arith)
+even-bit x e = bit-low x ∙ ne-eqb (x % 2) 1 (λ h. omega arith)
 
 module _ (x y : ℕ) (step : y ≡ bitAnd (x / 2) ((x - 1) / 2) * 2 + min (x % 2) ((x - 1) % 2)) (some : x ≡ 0 → ⊥) where
   without-even : y % 2 ≡ 0
@@ -49,18 +41,18 @@ module _ (x y : ℕ) (step : y ≡ bitAnd (x / 2) ((x - 1) / 2) * 2 + min (x % 2
 
       at : (j : ℕ) → bit j y ≡ bit j x && not (eqb j 0)
       at zero = rw (even-bit y without-even, odd-bit x e)
-      at (suc j) = rw (bit-half j y (x / 2) half, bit-half j x (x / 2) refl, eqb·suc-zero j, and-true (bit j (x / 2)))
+      at (suc j) = rw (bit-half j y, half, bit-half j x, eqb·suc-zero j, and-true (bit j (x / 2)))
 
   -- an even one: what goes from its half
   even : (i : ℕ) → x % 2 ≡ 0 → Lowest (x / 2) i (bitAnd (x / 2) (x / 2 - 1)) → Lowest x (suc i) y
-  even i e l = record { set = bit-half i x (x / 2) refl ∙ l .set; rest = at }
+  even i e l = record { set = bit-half i x ∙ l .set; rest = at }
     where
       half : y / 2 ≡ bitAnd (x / 2) (x / 2 - 1)
       half = let h : (x - 1) / 2 ≡ x / 2 - 1 = omega arith in omega (arith, rw h at step)
 
       at : (j : ℕ) → bit j y ≡ bit j x && not (eqb j (suc i))
       at zero = rw (even-bit y without-even, even-bit x e)
-      at (suc j) = rw (bit-half j y (bitAnd (x / 2) (x / 2 - 1)) half, bit-half j x (x / 2) refl, eqb·suc-suc j i) (l .rest j)
+      at (suc j) = rw (bit-half j y, half, bit-half j x, eqb·suc-suc j i) (l .rest j)
 
 -- the zeros below it are its index
 pub lowest : (k x : ℕ) → (x ≡ 0 → ⊥) → x < 2 ^ k → (trailingZeros k x < k) × Lowest x (trailingZeros k x) (bitAnd x (x - 1))

@@ -8,7 +8,7 @@ use lib.ListN.{length}
 use Rattle.words.specs.Bytes.{u16At, part}
 use Rattle.words.proofs.Parts.{part-whole}
 use Rattle.format.specs.Request.{contextOf, levelValue}
-use Rattle.table_check.proofs.Levels.{value-at}
+use Rattle.request_check.proofs.Levels.{value-at}
 use borrow.Author.Needs.{needs}
 use Rattle.places.proofs.masks.apart_at.Statement.{statement}
 use Rattle.places.proofs.masks.apart_at.Tie as tie

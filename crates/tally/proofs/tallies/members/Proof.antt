@@ -1,7 +1,7 @@
 -- `tally::tallies::members` meets its contract: the words passed are the members.
 -- Assumes nothing.
 use Rattle.tally.proofs.Filled.{filled, filled-none, filled-more, filled-all}
-use Rattle.tally.specs.Groups.{membersAt, memberWord}
+use Rattle.tally.specs.Code.{membersAt, memberWord}
 use native.Mathlib.Omega.{arith}
 use mathlib.Core.Path.{_≡_}
 use Prim.Native.Nat.{_-_, _≤_}
@@ -18,20 +18,20 @@ abbrev μ-loop : tie.MeasureT-loop
 loop-holds : tie.Need-loop-holds Inv-loop μ-loop
 loop-holds c = (omega arith, filled-none _ _)
 
-mul-u32-at : tie.Need-mul-u32-at Inv-loop μ-loop
-mul-u32-at c = search needs
+mul-read : tie.Need-mul-read Inv-loop μ-loop
+mul-read c = search needs
 
-add-u32-at : tie.Need-add-u32-at Inv-loop μ-loop
-add-u32-at c = search needs
+add-read : tie.Need-add-read Inv-loop μ-loop
+add-read c = search needs
 
-mul-u32-at-2 : tie.Need-mul-u32-at-2 Inv-loop μ-loop
-mul-u32-at-2 c = search needs
+mul-read-2 : tie.Need-mul-read-2 Inv-loop μ-loop
+mul-read-2 c = search needs
 
-add-u32-at-2 : tie.Need-add-u32-at-2 Inv-loop μ-loop
-add-u32-at-2 c = search needs
+add-read-2 : tie.Need-add-read-2 Inv-loop μ-loop
+add-read-2 c = search needs
 
-u32-at-requires : tie.Need-u32-at-requires Inv-loop μ-loop
-u32-at-requires c κs = search needs
+read-requires : tie.Need-read-requires Inv-loop μ-loop
+read-requires c κs = search needs
 
 mul-words : tie.Need-mul-words Inv-loop μ-loop
 mul-words c = search needs
@@ -49,8 +49,8 @@ loop-again : tie.Need-loop-again Inv-loop μ-loop
 loop-again c =
     let a = c .before .before .before .before .args in
     let l = c .before .before .loop in
-    let u32-at = c .u32-at in
-    (omega arith, filled-more (memberWord (a .b .now) (a .e)) _ (l .words) (l .i) _ (l .inv .1) (u32-at .ensures) (omega arith))
+    let read = c .read in
+    (omega arith, filled-more (memberWord (a .b .now) (a .e)) _ (l .words) (l .i) _ (l .inv .1) (read .ensures) (omega arith))
 
 returns : tie.Need-returns Inv-loop μ-loop
 unfolding membersAt
@@ -63,11 +63,11 @@ members-spec =
     Inv-loop
     μ-loop
     loop-holds
-    mul-u32-at
-    add-u32-at
-    mul-u32-at-2
-    add-u32-at-2
-    u32-at-requires
+    mul-read
+    add-read
+    mul-read-2
+    add-read-2
+    read-requires
     mul-words
     array-write-words
     add-i

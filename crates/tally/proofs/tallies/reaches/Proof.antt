@@ -1,6 +1,6 @@
 -- `tally::tallies::reaches` meets its contract.
 -- Assumes nothing.
-use Rattle.tally.specs.Groups.{reachedIn}
+use Rattle.tally.specs.Code.{reachedIn}
 use lib.Dec.{leb}
 use mathlib.Core.Bool.{Bool}
 use mathlib.Core.Path.{ap₂}

@@ -1,7 +1,7 @@
 -- `tally::tallies::repeats` meets its contract: the flag is the test over the members passed.
 -- Assumes nothing.
 use Rattle.tally.proofs.Sums.{any-more, any-all}
-use Rattle.tally.specs.Groups.{repeatsWord}
+use Rattle.tally.specs.Code.{repeatsWord}
 use Rattle.words.specs.Lists.{anyBelow}
 use lib.Dec.{eqb}
 use lib.ListN.{getD}

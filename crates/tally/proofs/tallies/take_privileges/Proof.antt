@@ -1,7 +1,8 @@
 -- `tally::tallies::take_privileges` meets its contract: the counts are those of the groups passed.
 -- Assumes nothing.
 use Rattle.tally.proofs.Counts.{done-none, done-turn, done-end, done-small, times-small}
-use Rattle.tally.specs.Groups.{doneIn, doneWord}
+use Rattle.request_check.specs.RequestWords.{doneWord}
+use Rattle.tally.specs.Code.{doneIn}
 use Rattle.format.specs.Request.{Request}
 use lib.Seq.{take-all}
 use native.Mathlib.Omega.{arith}
@@ -90,8 +91,8 @@ loop-again c =
     let add-privilege = c .add-privilege in
     (omega arith, done-turn (a .members .now) (a .groups .now) (a .i) (l .j) (number-if .result) _ _ (bit .result) (l .tally .done) (add-privilege .result .done) (l .inv .1) (bit .ensures) refl refl (number-if .ensures .0) (add-privilege .ensures .1))
 
-done-at-requires : tie.Need-done-at-requires Inv-loop μ-loop
-done-at-requires c κs = search needs
+privilege-requires : tie.Need-privilege-requires Inv-loop μ-loop
+privilege-requires c κs = search needs
 
 add-privilege-requires-2 : tie.Need-add-privilege-requires-2 Inv-loop μ-loop
 add-privilege-requires-2 c κs =
@@ -105,10 +106,10 @@ returns : tie.Need-returns Inv-loop μ-loop
 returns c =
     let a = c .before .before .before .before .before .before .before .args in
     let l = c .before .before .before .loop in
-    let done-at = c .before .done-at in
+    let privilege = c .before .privilege in
     let add-privilege2 = c .add-privilege2 in
     let whole = take-all 28 (a .q .now) (omega arith) in
-    done-end (a .members .now) (a .groups .now) (a .i) (l .j) (a .g) (done-at .result .0) (l .tally .done) (add-privilege2 .result .done) (a .q .now) (omega arith) (l .inv .1) (done-at .ensures ∙ ap (λ (q : Request). doneWord q) whole) (add-privilege2 .ensures .1)
+    done-end (a .members .now) (a .groups .now) (a .i) (l .j) (a .g) (privilege .result .0) (l .tally .done) (add-privilege2 .result .done) (a .q .now) (omega arith) (l .inv .1) (privilege .ensures ∙ ap (λ (q : Request). doneWord q) whole) (add-privilege2 .ensures .1)
 
 pub take-privileges-spec : {M : Type 1} → statement M
 take-privileges-spec =
@@ -135,6 +136,6 @@ take-privileges-spec =
     add-j
     loop-less
     loop-again
-    done-at-requires
+    privilege-requires
     add-privilege-requires-2
     returns)

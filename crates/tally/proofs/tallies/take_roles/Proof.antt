@@ -1,7 +1,7 @@
 -- `tally::tallies::take_roles` meets its contract: the roles are those of the groups passed.
 -- Assumes nothing.
 use Rattle.tally.proofs.Counts.{roles-none, roles-turn, roles-end}
-use Rattle.tally.specs.Groups.{rolesIn}
+use Rattle.tally.specs.Code.{rolesIn}
 use Rattle.format.specs.Request.{roles as rolesOf}
 use lib.Seq.{take-all}
 use native.Mathlib.Omega.{arith}

@@ -1,7 +1,7 @@
 -- `tally::tallies::times_listed` meets its contract: the count is that of the members passed.
 -- Assumes nothing.
 use Rattle.tally.proofs.Sums.{sum-more, sum-all}
-use Rattle.tally.specs.Groups.{listedWord}
+use Rattle.tally.specs.Code.{listedWord}
 use Rattle.words.specs.Lists.{sumBelow}
 use mathlib.Core.Bool.{cond}
 use lib.Dec.{eqb}

@@ -1,7 +1,7 @@
 -- `verdict::groups::add` meets its contract: a group is raised, or one is put behind the others.
 -- Assumes nothing.
+use Rattle.tally.proofs.Groups.{times-among}
 use Rattle.verdict.proofs.GroupLaws.{grown-raised, grown-behind}
-use Rattle.tally.proofs.Totals.{times-among}
 use lib.ListN.{length-set}
 use native.Mathlib.Omega.{arith}
 use mathlib.Core.Path.{sym, _∙_}

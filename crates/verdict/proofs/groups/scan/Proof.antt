@@ -1,7 +1,7 @@
 -- `verdict::groups::scan` meets its contract: what is found is what the records passed have.
 -- Assumes nothing.
 use Rattle.verdict.proofs.Standing.{room-few, place-inside, shared-stands, scan-start, scan-record, scan-all}
-use Rattle.tally.specs.Groups.{recordsIn}
+use Rattle.tally.specs.Code.{recordsIn}
 use Rattle.verdict.specs.Code.{Scanned}
 use Rattle.format.specs.Request.{Request, user as userOf}
 use Rattle.format.specs.Policy.{policyOf}

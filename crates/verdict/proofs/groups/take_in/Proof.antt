@@ -28,8 +28,8 @@ returns-2 c =
 roles-requires : tie.Need-roles-requires
 roles-requires c κs = search needs
 
-done-at-requires : tie.Need-done-at-requires
-done-at-requires c κs = search needs
+privilege-requires : tie.Need-privilege-requires
+privilege-requires c κs = search needs
 
 add-requires : tie.Need-add-requires
 add-requires c κs = search needs
@@ -46,11 +46,11 @@ returns-3 c =
     let same-user = c .before .before .before .before .before .before .before .before .before .before .same-user in
     let if2 = c .before .before .before .before .before .before .before .before .before .if2 in
     let roles = c .before .before .before .before .before .before .roles in
-    let done-at = c .before .before .before .before .before .done-at in
+    let privilege = c .before .before .before .before .before .privilege in
     let add = c .before .before .before .before .add in (
       add .ensures .0,
-      grown-mine (a .groups .now) _ (a .g) (add .result) (a .shared) _ _ (roles .result) (done-at .result .0) _
-          (sym (same-user .ensures) ∙ not-false (same-user .result) (if2 .left)) (roles .ensures) (done-at .ensures) (add .ensures .1),
+      grown-mine (a .groups .now) _ (a .g) (add .result) (a .shared) _ _ (roles .result) (privilege .result .0) _
+          (sym (same-user .ensures) ∙ not-false (same-user .result) (if2 .left)) (roles .ensures) (privilege .ensures) (add .ensures .1),
     )
 
 pub take-in-spec : {M : Type 1} → statement M
@@ -61,7 +61,7 @@ take-in-spec =
     same-user-requires
     returns-2
     roles-requires
-    done-at-requires
+    privilege-requires
     add-requires
     same-length
     same-length-2

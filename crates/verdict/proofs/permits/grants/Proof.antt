@@ -1,6 +1,6 @@
 -- `verdict::permits::grants` meets its contract.
 -- Assumes nothing.
-use Rattle.tally.specs.Groups.{doneWord}
+use Rattle.request_check.specs.RequestWords.{doneWord}
 use Rattle.words.specs.Bytes.{bit}
 use lib.Dec.{eqb}
 use mathlib.Core.Bool.{Bool, _&&_}
@@ -29,31 +29,31 @@ u16-at-requires c κs = search needs
 has-role-requires : tie.Need-has-role-requires
 has-role-requires c κs = omega (arith, c .u16-at .ensures .0)
 
-mul-u32-at : tie.Need-mul-u32-at
-mul-u32-at c = search needs
+mul-read : tie.Need-mul-read
+mul-read c = search needs
 
-add-u32-at : tie.Need-add-u32-at
-add-u32-at c = search needs
+add-read : tie.Need-add-read
+add-read c = search needs
 
-u32-at-requires : tie.Need-u32-at-requires
-u32-at-requires c κs = search needs
+read-requires : tie.Need-read-requires
+read-requires c κs = search needs
 
-done-at-requires : tie.Need-done-at-requires
-done-at-requires c κs = search needs
+privilege-requires : tie.Need-privilege-requires
+privilege-requires c κs = search needs
 
 returns : tie.Need-returns
 returns c =
-    let a = c .before .before .before .before .before .before .before .before .args in
-    let shared-slice-known = c .before .before .before .before .before .before .before .shared-slice-known in
-    let shared-slice-known2 = c .before .before .before .before .before .before .shared-slice-known2 in
-    let roles = c .before .before .before .before .before .roles in
-    let u16-at = c .before .before .before .before .u16-at in
-    let has-role = c .before .before .before .has-role in
-    let u32-at = c .before .before .u32-at in
-    let done-at = c .before .done-at in
+    let a = c .before .before .before .before .before .before .before .before .before .args in
+    let shared-slice-known = c .before .before .before .before .before .before .before .before .shared-slice-known in
+    let shared-slice-known2 = c .before .before .before .before .before .before .before .shared-slice-known2 in
+    let roles = c .before .before .before .before .before .before .roles in
+    let u16-at = c .before .before .before .before .before .u16-at in
+    let has-role = c .before .before .before .before .has-role in
+    let read = c .before .before .before .read in
+    let privilege = c .before .before .privilege in
     let whole = take-all 28 (a .q .now) (omega arith) in
     ap₂ {C = Bool} (λ x y. x && y) (has-role .ensures ∙ ap₂ {C = Bool} (λ (k x : ℕ). bit (k - 1) x) (u16-at .ensures .0) (roles .ensures ∙ ap rolesOf whole))
-    (ap₂ {C = Bool} eqb (u32-at .ensures) (done-at .ensures ∙ ap (λ (q : Request). doneWord q) whole))
+    (ap₂ {C = Bool} eqb (read .ensures) (privilege .ensures ∙ ap (λ (q : Request). doneWord q) whole))
     ∙ grants-word (a .b .now) (a .q .now) (a .i) (λ i. shared-slice-known .given i .fits) (λ i. shared-slice-known2 .given i .fits)
 
 pub grants-spec : {M : Type 1} → statement M
@@ -65,8 +65,8 @@ grants-spec =
     add-u16-at
     u16-at-requires
     has-role-requires
-    mul-u32-at
-    add-u32-at
-    u32-at-requires
-    done-at-requires
+    mul-read
+    add-read
+    read-requires
+    privilege-requires
     returns)

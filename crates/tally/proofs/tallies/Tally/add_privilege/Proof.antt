@@ -8,7 +8,7 @@ use native.Mathlib.Omega.{arith}
 use borrow.Author.Needs.{needs}
 use lib.ListN.{getD}
 use lib.Dec.{eqb}
-use Rattle.tally.specs.Groups.{addDone}
+use Rattle.tally.specs.Code.{addDone}
 use Rattle.tally.proofs.Filled.{filled, filled-none, filled-read, filled-more, filled-all}
 use Rattle.tally.proofs.tallies.Tally.add_privilege.Statement.{statement}
 use Rattle.tally.proofs.tallies.Tally.add_privilege.Tie as tie

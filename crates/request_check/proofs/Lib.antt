@@ -1,0 +1,3 @@
+pub mod RequestWords
+pub mod Privileges
+pub mod Levels

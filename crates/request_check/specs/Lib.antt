@@ -1,0 +1,2 @@
+pub mod RequestWords
+pub mod Levels

@@ -1,0 +1,3 @@
+pub mod fits;
+pub mod request;
+pub mod steps;

@@ -1,0 +1,157 @@
+// The request: what its 28 bytes say, and its check. The words of 4 bytes are read whole, and those that hold two numbers are parted
+// after that: a table has many requests to look at.
+ghost use mathlib.Core.Path.{_≡_};
+ghost use mathlib.Core.Bool.{cond};
+ghost use Prim.Native.Nat.{_+_, _≤_};
+ghost use lib.ListN.{length};
+ghost use Rattle.words.specs.Bytes.{part};
+ghost use Rattle.format.specs.Request.{user as userOf, roles as rolesOf, contextOf, depthOf, goodContext, goodRequest, requestFault};
+ghost use Rattle.request_check.specs.RequestWords.{doneWord, usedWord, goodLastWords, goodLevelWords, usedWords};
+ghost use Rattle.format.specs.Code.{faultOf};
+use format::answer::Fault;
+use format::answer::Refusal;
+use format::number::User;
+use exclusion_check::privilege;
+use exclusion_check::privilege::Privilege;
+use words::field::u32_at;
+
+// Who asks.
+pub fn user(s: &[u8], at: usize) -> User
+    requires { ⌜ at + 28 ≤ length (now s) ⌝ }
+    ensures { λ r. ⌜ r .0 ≡ userOf (part (now (s .entry)) at 28) ⌝ }
+{
+    User(u32_at(s, at))
+}
+
+// The active roles, role k at bit k - 1.
+pub fn roles(s: &[u8], at: usize) -> u32
+    requires { ⌜ at + 28 ≤ length (now s) ⌝ }
+    ensures { λ r. ⌜ r ≡ rolesOf (part (now (s .entry)) at 28) ⌝ }
+{
+    u32_at(s, at + 4)
+}
+
+// What is to be done, and to what.
+pub fn privilege(s: &[u8], at: usize) -> Privilege
+    requires { ⌜ at + 28 ≤ length (now s) ⌝ }
+    ensures { λ r. ⌜ r .0 ≡ doneWord (part (now (s .entry)) at 28) ⌝ }
+{
+    privilege::read(s, at + 8)
+}
+
+// Both numbers of a word are from 1.
+fn used(word: u32) -> bool
+    ensures { λ r. ⌜ r ≡ usedWord word ⌝ }
+{
+    (word % 65536 != 0) & (word / 65536 != 0)
+}
+
+// The last two levels, behind two used ones.
+fn good_last_levels(y: u32, z: u32) -> bool
+    ensures { λ r. ⌜ r ≡ goodLastWords y z ⌝ }
+{
+    if y == 0 {
+        return z == 0;
+    }
+    if !used(y) {
+        return false;
+    }
+    (z == 0) | used(z)
+}
+
+// The four levels: used ones come first, and the others are zero. What fails ends the test: on a good table nothing does.
+fn good_levels(w: u32, x: u32, y: u32, z: u32) -> bool
+    ensures { λ r. ⌜ r ≡ goodLevelWords w x y z ⌝ }
+{
+    if w == 0 {
+        return (x == 0) & (y == 0) & (z == 0);
+    }
+    if !used(w) {
+        return false;
+    }
+    if x == 0 {
+        return (y == 0) & (z == 0);
+    }
+    if !used(x) {
+        return false;
+    }
+    good_last_levels(y, z)
+}
+
+// 1 for a used level, and 0 for any other.
+fn used_count(word: u32) -> u32
+    ensures { λ r. ⌜ (r ≡ cond (usedWord word) 1 0) × (r ≤ 1) ⌝ }
+{
+    if used(word) { 1 } else { 0 }
+}
+
+// How many of the four levels are used.
+fn used_levels(w: u32, x: u32, y: u32, z: u32) -> u32
+    ensures { λ r. ⌜ r ≡ usedWords w x y z ⌝ }
+{
+    used_count(w) + used_count(x) + used_count(y) + used_count(z)
+}
+
+// The depth of the request's context.
+pub fn depth(s: &[u8], at: usize) -> u32
+    requires { ⌜ at + 28 ≤ length (now s) ⌝ }
+    ensures { λ r. ⌜ r ≡ depthOf (contextOf (part (now (s .entry)) at 28)) ⌝ }
+{
+    used_levels(
+        u32_at(s, at + 12),
+        u32_at(s, at + 16),
+        u32_at(s, at + 20),
+        u32_at(s, at + 24),
+    )
+}
+
+// The context of a request, which begins at its byte 12.
+fn good_context(s: &[u8], at: usize) -> bool
+    requires { ⌜ at + 16 ≤ length (now s) ⌝ }
+    ensures { λ r. ⌜ r ≡ goodContext (part (now (s .entry)) at 16) ⌝ }
+{
+    good_levels(
+        u32_at(s, at),
+        u32_at(s, at + 4),
+        u32_at(s, at + 8),
+        u32_at(s, at + 12),
+    )
+}
+
+// The request's fields.
+pub fn good_request(s: &[u8], at: usize) -> bool
+    requires { ⌜ at + 28 ≤ length (now s) ⌝ }
+    ensures { λ r. ⌜ r ≡ goodRequest (part (now (s .entry)) at 28) ⌝ }
+{
+    if u32_at(s, at) == 0 {
+        return false;
+    }
+    if u32_at(s, at + 4) == 0 {
+        return false;
+    }
+    if !used(privilege::read(s, at + 8).0) {
+        return false;
+    }
+    good_context(s, at + 12)
+}
+
+// The check of a request: its length, and then its fields.
+pub fn request_fault(q: &[u8]) -> Fault
+    ensures { λ r. ⌜ faultOf r ≡ requestFault (now (q .entry)) ⌝ }
+{
+    if q.len() != 28 {
+        return Fault::At(Refusal {
+            number: 21,
+            first: 0,
+            second: 0,
+        });
+    }
+    if !good_request(q, 0) {
+        return Fault::At(Refusal {
+            number: 22,
+            first: 0,
+            second: 0,
+        });
+    }
+    Fault::Nothing
+}
