@@ -8,11 +8,11 @@ ghost use Rattle.words.specs.Bytes.{part};
 ghost use Rattle.format.specs.Request.{user as userOf, roles as rolesOf, contextOf, depthOf, goodContext, goodRequest, requestFault};
 ghost use Rattle.request_check.specs.RequestWords.{doneWord, usedWord, goodLastWords, goodLevelWords, usedWords};
 ghost use Rattle.format.specs.Code.{faultOf};
+use exclusion_check::privilege;
+use exclusion_check::privilege::Privilege;
 use format::answer::Fault;
 use format::answer::Refusal;
 use format::number::User;
-use exclusion_check::privilege;
-use exclusion_check::privilege::Privilege;
 use words::field::u32_at;
 
 // Who asks.
