@@ -1,9 +1,7 @@
 pub mod Cut
 pub mod AnyOf
-pub mod GroupLaws
 pub mod AcceptedEntries
 pub mod Permissions
-pub mod Standing
 pub mod Nested
 pub mod Searching
 pub mod VerdictRows

@@ -31,11 +31,12 @@ use Rattle.judge.specs.Verdict.{permitted, judges, failing, verdict}
 use Rattle.judge.specs.NewTable.{standsIn, openIn, pastIn}
 use Rattle.request_check.specs.RequestWords.{doneWord}
 use Rattle.tally.specs.Code.{rolesIn, timesIn, rolesTaken, reachedIn}
-use Rattle.verdict.specs.Code.{fittingIn, judgingBy, judgingIn, countsFor, Scanned, failsIn, ruleFails, maskFails, VerdictIs}
+use Rattle.groups.specs.Code.{fittingIn, countsFor, Scanned}
+use Rattle.verdict.specs.Code.{judgingBy, judgingIn, failsIn, ruleFails, maskFails, VerdictIs}
 use Rattle.verdict.proofs.AcceptedEntries.{exclusion-fits}
 use Rattle.request_check.proofs.Privileges.{OfBytes, part-bytes}
 use Rattle.tally.proofs.Exclusions.{n-most, tally-same}
-use Rattle.verdict.proofs.Standing.{bit-fits}
+use Rattle.groups.proofs.Standing.{bit-fits}
 
 -- ---- what the rule of index i counts, from its records
 

@@ -2,48 +2,27 @@
 -- Assumes nothing.
 use Prim.Native.Nat.{ℕ, _+_, _*_, _≤_, _<_}
 use mathlib.Core.Path.{_≡_}
-use mathlib.Core.Bool.{Bool, true, cond, not, _&&_, _||_}
+use mathlib.Core.Bool.{cond, not}
 use mathlib.Core.List.{List, []}
 use mathlib.Core.Option.{Option, none, some}
-use lib.ListN.{length, getD}
+use lib.ListN.{length}
 use lib.Dec.{eqb}
-use Rattle.words.specs.Lists.{tab, keep, anyOf}
+use Rattle.words.specs.Lists.{tab}
 use Rattle.words.specs.First.{unless, first}
 use Rattle.words.specs.Bytes.{byteAt, bit, bits}
 use Rattle.format.specs.Answer.{Refusal, refusal}
-use Rattle.format.specs.Layout.{blockBytes, mostRules, tableBlocks, capacity, permissionKind, highestRole}
-use Rattle.format.specs.Block.{blocks, block, kind}
-use Rattle.format.specs.Request.{Request, user, roles}
+use Rattle.format.specs.Layout.{blockBytes, mostRules, permissionKind, highestRole}
+use Rattle.format.specs.Block.{block, kind}
+use Rattle.format.specs.Request.{Request}
 use Rattle.format.specs.Rule.{exclusionAt}
-use Rattle.format.specs.Fits.{fits}
 use Rattle.format.specs.Policy.{Policy, Permission, permissionAt, entries}
 use Rattle.format.specs.Table.{Record}
-use Rattle.request_check.specs.RequestWords.{doneWord}
-use Rattle.judge.specs.Tally.{sameUser, exclusionNumber}
+use Rattle.judge.specs.Tally.{exclusionNumber}
 use Rattle.judge.specs.Verdict.{judges, verdict}
-use Rattle.judge.specs.NewTable.{standsIn, openIn, pastIn}
-use Rattle.tally.specs.Code.{sharedOf, rolesOf, doneOf, timesOf, rolesIn, timesIn, recordsIn, rolesTaken, reachedIn}
+use Rattle.judge.specs.NewTable.{openIn, pastIn}
+use Rattle.tally.specs.Code.{rolesTaken, reachedIn}
 use Rattle.verdict.specs.declared.verdicts.Failing.{Failing}
 use Rattle.verdict.specs.declared.verdicts.Failing.the-variants.{Nowhere, At}
-
--- ---- a record more in the groups
-
--- group g is written, of one record, and those before it are as they were
-pub record Behind (shared roles done : ℕ) (old : List ℕ) (g : ℕ) (new : List ℕ) : Type 0 where
-  pub size : length new ≡ length old
-  pub same : (m : ℕ) → m < 4 * g → getD new m 0 ≡ getD old m 0
-  pub isShared : sharedOf new g ≡ shared
-  pub isRoles : rolesOf new g ≡ roles
-  pub isDone : doneOf new g ≡ done
-  pub once : timesOf new g ≡ 1
-
--- a list of groups after one record more, or none if it is not one that counts
-pub record Grown (counts : Bool) (shared roles done : ℕ) (old : List ℕ) (g : ℕ) (new : List ℕ) (h : ℕ) : Type 0 where
-  pub size : length new ≡ length old
-  pub most : h ≤ g + 1
-  pub records : recordsIn new h ≤ recordsIn old g + 1
-  pub allRoles : (i k : ℕ) → bit k (rolesIn new i h) ≡ bit k (rolesIn old i g) || (bit i shared && (counts && bit k roles))
-  pub allTimes : (i d : ℕ) → timesIn new i d h ≡ timesIn old i d g + cond (bit i shared && (counts && eqb done d)) 1 0
 
 -- ---- the verdict
 
@@ -62,17 +41,7 @@ pub record RuleBlock (b : List ℕ) : Type 0 where
   pub whole : length b ≡ blockBytes
   pub depth : byteAt b 8 ≤ 4
 
--- a table's image has room for its n records
-pub record HasRoom (table : List ℕ) (n : ℕ) : Type 0 where
-  pub whole : length table ≡ blockBytes * blocks table
-  pub most : blocks table ≤ tableBlocks
-  pub few : n ≤ capacity (blocks table)
-
 -- ---- step 2
-
--- the rules of a policy that a request fits, rule i + 1 at bit i
-unfoldable pub fittingIn : Policy → Request → ℕ
-fittingIn p q = bits (p .rules) (λ i. fits (p .rule i) q)
 
 -- those that judge it, where `opens` has the rules whose run place is open
 unfoldable pub judgingBy : Policy → Request → ℕ → ℕ
@@ -81,16 +50,6 @@ judgingBy p q opens = bits (p .rules) (λ i. judges (p .rule i) q (bit i opens))
 -- those that judge it over these records
 unfoldable pub judgingIn : Policy → List Record → Request → ℕ
 judgingIn p rs q = bits (p .rules) (λ i. judges (p .rule i) q (openIn p rs q i))
-
--- step 3 counts a record for the rule of index i, and the record's request passes a test
-unfoldable pub countsFor : Policy → Request → ℕ → (Request → Bool) → Record → Bool
-countsFor p q i test r = standsIn p q i r && (sameUser (user q) (r .request) && test (r .request))
-
--- what one pass over these records finds, for the rules of a mask: the open run places, and the groups
-pub record Scanned (p : Policy) (q : Request) (mask opens : ℕ) (groups : List ℕ) (g : ℕ) (rs : List Record) : Type 0 where
-  pub isOpen : (i : ℕ) → bit i mask ≡ true → bit i opens ≡ anyOf (standsIn p q i) rs
-  pub allRoles : (i : ℕ) → bit i mask ≡ true → (k : ℕ) → bit k (rolesIn groups i g) ≡ anyOf (countsFor p q i (λ r. bit k (roles r))) rs
-  pub allTimes : (i : ℕ) → bit i mask ≡ true → (d : ℕ) → timesIn groups i d g ≡ length (keep (countsFor p q i (λ r. eqb (doneWord r) d)) rs)
 
 -- ---- step 3
 

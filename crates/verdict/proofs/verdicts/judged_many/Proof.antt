@@ -1,6 +1,6 @@
 -- `verdict::verdicts::judged_many` meets its contract.
 -- Assumes nothing.
-use Rattle.verdict.proofs.Standing.{room-few}
+use Rattle.groups.proofs.Standing.{room-few}
 use lib.ListN.{length-replicate, length-take}
 use native.Mathlib.Omega.{arith}
 use Prim.Native.Nat.{ℕ}

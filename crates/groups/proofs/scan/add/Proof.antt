@@ -1,13 +1,13 @@
 -- `verdict::groups::add` meets its contract: a group is raised, or one is put behind the others.
 -- Assumes nothing.
 use Rattle.tally.proofs.Groups.{times-among}
-use Rattle.verdict.proofs.GroupLaws.{grown-raised, grown-behind}
+use Rattle.groups.proofs.GroupLaws.{grown-raised, grown-behind}
 use lib.ListN.{length-set}
 use native.Mathlib.Omega.{arith}
 use mathlib.Core.Path.{sym, _∙_}
 use borrow.Author.Needs.{needs}
-use Rattle.verdict.proofs.groups.add.Statement.{statement}
-use Rattle.verdict.proofs.groups.add.Tie as tie
+use Rattle.groups.proofs.scan.add.Statement.{statement}
+use Rattle.groups.proofs.scan.add.Tie as tie
 
 hint-at-requires : tie.Need-hint-at-requires
 hint-at-requires c κs = search needs

@@ -14,7 +14,7 @@ ghost use Rattle.judge.specs.Tally.{sameUser};
 ghost use Rattle.places.specs.Masks.{apartBy};
 ghost use Rattle.request_check.specs.RequestWords.{doneWord};
 ghost use Rattle.tally.specs.Code.{sharedOf, rolesOf, doneOf, timesOf, GroupsFit};
-ghost use Rattle.verdict.specs.Code.{Behind, Grown, HasRoom, fittingIn, Scanned};
+ghost use Rattle.groups.specs.Code.{Behind, Grown, HasRoom, fittingIn, Scanned};
 use exclusion_check::privilege::Privilege;
 use format::number::User;
 use places::masks::Each;

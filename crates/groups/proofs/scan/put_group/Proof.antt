@@ -1,11 +1,11 @@
 -- `verdict::groups::put_group` meets its contract.
 -- Assumes nothing.
-use Rattle.verdict.proofs.GroupLaws.{behind-written}
+use Rattle.groups.proofs.GroupLaws.{behind-written}
 use lib.ListN.{length-set}
 use native.Mathlib.Omega.{arith}
 use borrow.Author.Needs.{needs}
-use Rattle.verdict.proofs.groups.put_group.Statement.{statement}
-use Rattle.verdict.proofs.groups.put_group.Tie as tie
+use Rattle.groups.proofs.scan.put_group.Statement.{statement}
+use Rattle.groups.proofs.scan.put_group.Tie as tie
 
 mul-groups : tie.Need-mul-groups
 mul-groups c = search needs

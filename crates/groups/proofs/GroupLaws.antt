@@ -15,7 +15,7 @@ use lib.Dec.{eqb}
 use Rattle.words.specs.Lists.{sumBelow}
 use Rattle.words.specs.Bytes.{bit}
 use Rattle.tally.specs.Code.{sharedOf, rolesOf, doneOf, timesOf, rolesIn, timesIn, recordsIn}
-use Rattle.verdict.specs.Code.{Behind, Grown}
+use Rattle.groups.specs.Code.{Behind, Grown}
 use Rattle.tally.proofs.Sums.{sumBelow-same, sum-raised}
 use Rattle.words.proofs.Tests.{both-first, both-second}
 use Rattle.words.proofs.Bits.{bit-none}

@@ -1,8 +1,8 @@
 -- `verdict::groups::scan` meets its contract: what is found is what the records passed have.
 -- Assumes nothing.
-use Rattle.verdict.proofs.Standing.{room-few, place-inside, shared-stands, scan-start, scan-record, scan-all}
+use Rattle.groups.proofs.Standing.{room-few, place-inside, shared-stands, scan-start, scan-record, scan-all}
 use Rattle.tally.specs.Code.{recordsIn}
-use Rattle.verdict.specs.Code.{Scanned}
+use Rattle.groups.specs.Code.{Scanned}
 use Rattle.format.specs.Request.{Request, user as userOf}
 use Rattle.format.specs.Policy.{policyOf}
 use Rattle.format.specs.Place.{recordFrom, recordsHere}
@@ -13,8 +13,8 @@ use native.Mathlib.Omega.{arith}
 use mathlib.Core.Path.{_≡_, refl, sym, ap, _∙_}
 use Prim.Native.Nat.{_-_, _≤_}
 use borrow.Author.Needs.{needs}
-use Rattle.verdict.proofs.groups.scan.Statement.{statement}
-use Rattle.verdict.proofs.groups.scan.Tie as tie
+use Rattle.groups.proofs.scan.scan.Statement.{statement}
+use Rattle.groups.proofs.scan.scan.Tie as tie
 
 abbrev Inv-loop : tie.InvT-loop
 Inv-loop policy rules fitting q table n groups₀ hints₀ each who opens₀ g₀ k₀ groups hints opens g k =

@@ -5,8 +5,8 @@ use lib.Bits.{bitAnd}
 use native.Mathlib.Omega.{arith}
 use mathlib.Core.Path.{ap, ap₂, sym, _∙_}
 use borrow.Author.Needs.{needs}
-use Rattle.verdict.proofs.groups.shared_at.Statement.{statement}
-use Rattle.verdict.proofs.groups.shared_at.Tie as tie
+use Rattle.groups.proofs.scan.shared_at.Statement.{statement}
+use Rattle.groups.proofs.scan.shared_at.Tie as tie
 
 add-u32-at : tie.Need-add-u32-at
 add-u32-at c = search needs

@@ -1,11 +1,11 @@
 -- `verdict::groups::take_in` meets its contract: a record that does not count leaves the groups as they are.
 -- Assumes nothing.
-use Rattle.verdict.proofs.GroupLaws.{grown-no-rule, grown-other-user, grown-mine}
+use Rattle.groups.proofs.GroupLaws.{grown-no-rule, grown-other-user, grown-mine}
 use borrow.Author.Tests.{not-true, not-false}
 use mathlib.Core.Path.{sym, _∙_}
 use borrow.Author.Needs.{needs}
-use Rattle.verdict.proofs.groups.take_in.Statement.{statement}
-use Rattle.verdict.proofs.groups.take_in.Tie as tie
+use Rattle.groups.proofs.scan.take_in.Statement.{statement}
+use Rattle.groups.proofs.scan.take_in.Tie as tie
 
 returns : tie.Need-returns
 returns c =

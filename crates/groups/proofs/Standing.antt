@@ -31,7 +31,7 @@ use Rattle.places.proofs.Apart.{apart-is}
 use Rattle.table_write.proofs.Parts.{tab-more}
 use Rattle.request_check.specs.RequestWords.{doneWord}
 use Rattle.tally.specs.Code.{rolesIn, timesIn}
-use Rattle.verdict.specs.Code.{HasRoom, Grown, fittingIn, countsFor, Scanned}
+use Rattle.groups.specs.Code.{HasRoom, Grown, fittingIn, countsFor, Scanned}
 use Rattle.words.proofs.Bits.{bit-none, bit-bits, bit-beyond}
 use Rattle.words.proofs.BitLaws.{bit-or, bit-and, bit-without}
 

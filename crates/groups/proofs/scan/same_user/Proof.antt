@@ -5,8 +5,8 @@ use lib.Dec.{eqb}
 use Prim.Native.Nat.{ℕ}
 use mathlib.Core.Path.{ap}
 use borrow.Author.Needs.{needs}
-use Rattle.verdict.proofs.groups.same_user.Statement.{statement}
-use Rattle.verdict.proofs.groups.same_user.Tie as tie
+use Rattle.groups.proofs.scan.same_user.Statement.{statement}
+use Rattle.groups.proofs.scan.same_user.Tie as tie
 
 user-requires : tie.Need-user-requires
 user-requires c κs = search needs
