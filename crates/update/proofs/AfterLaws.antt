@@ -3,28 +3,26 @@
 use Prim.Native.Nat.{ℕ, _+_, _*_, _/_, _<_, _≤_, max}
 use native.Mathlib.Omega.{arith}
 use mathlib.Core.Path.{_≡_, sym, ap, ap₂, _∙_}
-use mathlib.Core.Bool.{cond}
-use mathlib.Core.List.{List, [], _∷_, _++_, map, append-nil}
-use lib.ListN.{length, length-append, length-map}
-use lib.Dec.{eqb}
+use mathlib.Core.List.{List, [], _∷_, _++_}
+use lib.ListN.{length, length-append}
 use Rattle.words.specs.Sums.{Sums}
-use Rattle.words.proofs.Keep.{keep-split}
 use Rattle.words.proofs.Every.{Every}
 use Rattle.words.proofs.Bytes.{Byte}
 use Rattle.format.specs.Layout.{blockBytes, blockRecords, requestBytes, capacity}
 use Rattle.format.specs.Block.{blocks, block}
 use Rattle.format.specs.Request.{Request}
-use Rattle.format.specs.Table.{Record, hasMark, tableImage}
+use Rattle.format.specs.Table.{Record, tableImage}
 use Rattle.format.specs.Place.{recordsHere}
-use Rattle.judge.specs.NewTable.{sweep}
 use Rattle.places.specs.declared.masks.Each.{Each}
 use Rattle.table_write.specs.Writing.{countIn, imageBlock, ImageOutside}
 use Rattle.table_write.proofs.Places.{recordPut, length-put, records-more, block-kept}
 use Rattle.table_write.proofs.TableWritten.{image-at, image-kept}
-use Rattle.update.specs.Cleared.{clearedBy, leftBy, Compacted, afterBy}
-use Rattle.update.specs.Standing.{Holds}
+use Rattle.clearing.specs.Cleared.{leftBy, afterBy}
+use Rattle.clearing.specs.Holding.{Holds}
+use Rattle.clearing.proofs.Left.{length-here}
+use Rattle.clearing.proofs.After.{after-none, after-one}
+use Rattle.update.specs.Compacted.{Compacted}
 use Rattle.update.proofs.Standing.{same-room}
-use Rattle.update.proofs.Compaction.{sweep-none, sweep-one, length-here, length-swept, left-any}
 
 -- ---- blocks that no record left or came to
 
@@ -45,53 +43,17 @@ module _ (t : Sums) (s s′ : List ℕ) (n n′ : ℕ) (bytes : Every Byte s) (l
         behind = λ k lo hi. kept-image k (omega (arith, same)) (behind k (omega arith)) (omega arith);
       }
 
--- ---- the records
-
--- where no rule ends, the masks do not matter
-pub after-any : (e e′ : Each) (q : Request) (ends gives : ℕ) (rs : List Record) → ends ≡ 0 → afterBy e q ends gives rs ≡ afterBy e′ q ends gives rs
-unfolding afterBy
-after-any e e′ q ends gives rs z = rw z (ap (λ xs. xs ++ sweep (record { request = q; marks = gives } ∷ [])) (left-any e e′ q rs))
+-- ---- the table
 
 module _ (e : Each) (q : Request) (ends : ℕ) where
-  after-none : (gives : ℕ) (rs : List Record) → gives ≡ 0 → afterBy e q ends gives rs ≡ leftBy e q ends rs
-  unfolding afterBy
-  after-none gives rs z = rw (sweep-none (record { request = q; marks = gives }) z) (append-nil (leftBy e q ends rs))
-
-  after-one :
-      (gives : ℕ) (rs : List Record) → (gives ≡ 0 → ⊥)
-      → afterBy e q ends gives rs ≡ leftBy e q ends rs ++ (record { request = q; marks = gives } ∷ [])
-  unfolding afterBy
-  after-one gives rs z = rw (sweep-one (record { request = q; marks = gives }) z)
-
-  -- their number
-  left-few : (rs : List Record) → length (leftBy e q ends rs) ≤ length rs
-  unfolding leftBy sweep
-  left-few rs = omega (arith, keep-split hasMark (map (clearedBy e q ends) rs), length-map rs (clearedBy e q ends))
-
-  pub after-count : (gives : ℕ) (rs : List Record) → (gives ≡ 0 → ⊥) → length (afterBy e q ends gives rs) ≡ length (leftBy e q ends rs) + 1
-  after-count gives rs z =
-      ap length (after-one gives rs z) ∙ length-append (leftBy e q ends rs) (record { request = q; marks = gives } ∷ [])
-
-  pub after-few : (gives : ℕ) (rs : List Record) → length (afterBy e q ends gives rs) ≤ length rs + cond (eqb gives 0) 0 1
-  unfolding afterBy
-  after-few gives rs =
-      omega (
-        arith,
-        left-few rs,
-        length-append (leftBy e q ends rs) (sweep (record { request = q; marks = gives } ∷ [])),
-        length-swept (record { request = q; marks = gives }),
-      )
-
-  -- ---- the table
-
   module _ {s t₁ : List ℕ} {from n held : ℕ} (c : Compacted e q ends s from n t₁ held) where
     pub length-none : (gives : ℕ) → gives ≡ 0 → held ≡ length (afterBy e q ends gives (recordsHere s n))
-    length-none gives z = sym (ap length (after-none gives (recordsHere s n) z ∙ sym (c .records)) ∙ length-here t₁ held)
+    length-none gives z = sym (ap length (after-none e q ends gives (recordsHere s n) z ∙ sym (c .records)) ∙ length-here t₁ held)
 
     pub length-one : (gives : ℕ) → (gives ≡ 0 → ⊥) → held + 1 ≡ length (afterBy e q ends gives (recordsHere s n))
     length-one gives z =
         sym
-        (ap length (after-one gives (recordsHere s n) z)
+        (ap length (after-one e q ends gives (recordsHere s n) z)
         ∙ length-append (leftBy e q ends (recordsHere s n)) (record { request = q; marks = gives } ∷ [])
         ∙ ap (λ (x : ℕ). x + 1) (ap length (sym (c .records)) ∙ length-here t₁ held))
 
@@ -101,7 +63,7 @@ module _ (e : Each) (q : Request) (ends : ℕ) where
         → t₂ ≡ tableImage t (blocks s) (afterBy e q ends gives (recordsHere s n))
     image-none t gives z is =
         is
-        ∙ ap₂ {C = List ℕ} (tableImage t) (ap (λ (x : ℕ). x / blockBytes) (c .long)) (c .records ∙ sym (after-none gives (recordsHere s n) z))
+        ∙ ap₂ {C = List ℕ} (tableImage t) (ap (λ (x : ℕ). x / blockBytes) (c .long)) (c .records ∙ sym (after-none e q ends gives (recordsHere s n) z))
 
     module _ (t : Sums) (bytes : Every Byte s) (h : Holds s n) (image : s ≡ tableImage t (blocks s) (recordsHere s n)) (le : from ≤ n) where
       pub room-none : Holds t₁ n
@@ -135,14 +97,4 @@ module _ (e : Each) (q : Request) (ends : ℕ) where
             (ap (λ (l : List ℕ). recordsHere l (held + 1)) put
             ∙ records-more t₁ (blocks s) (c .long ∙ h .long) held inside q sized gives small
             ∙ ap (λ (rs : List Record). rs ++ (record { request = q; marks = gives } ∷ [])) (c .records)
-            ∙ sym (after-one gives (recordsHere s n) z))
-
--- ---- where no record changes
-
-module _ (e : Each) (q : Request) (ends gives : ℕ) (s : List ℕ) (n : ℕ) (stay : leftBy e q ends (recordsHere s n) ≡ recordsHere s n) where
-  pub stay-none : gives ≡ 0 → afterBy e q ends gives (recordsHere s n) ≡ recordsHere s n
-  stay-none z = after-none e q ends gives (recordsHere s n) z ∙ stay
-
-  pub stay-length : (gives ≡ 0 → ⊥) → n + 1 ≡ length (afterBy e q ends gives (recordsHere s n))
-  stay-length z =
-      sym (after-count e q ends gives (recordsHere s n) z ∙ ap (λ (rs : List Record). length rs + 1) stay ∙ ap (λ (m : ℕ). m + 1) (length-here s n))
+            ∙ sym (after-one e q ends gives (recordsHere s n) z))

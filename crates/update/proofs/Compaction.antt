@@ -1,110 +1,35 @@
 -- Records moved to the front: after i records those that keep a mark stand in front, and the later ones are untouched.
 -- Assumes nothing.
-use Prim.Native.Nat.{ℕ, _+_, _-_, _*_, _<_, _≤_}
-use native.Mathlib.Nat.{zero-add}
-use native.Mathlib.Numerals.{add-one}
+use Prim.Native.Nat.{ℕ, _+_, _*_, _<_, _≤_}
 use native.Mathlib.Omega.{arith}
 use mathlib.Core.Path.{_≡_, refl, sym, ap, ap₂, _∙_}
-use mathlib.Core.Bool.{Bool, true, false, cond, not, false≢true}
-use mathlib.Core.List.{List, [], _∷_, _++_, map, append-nil}
-use lib.Bits.{and-zero-r, bitAnd}
+use mathlib.Core.Bool.{true, not, false≢true}
+use mathlib.Core.List.{List, [], _∷_, _++_, append-nil}
 use lib.ListN.{length}
 use lib.Dec.{eqb}
-use borrow.Author.Tests.{eq-eqb, ne-eqb, eqb-true}
-use Rattle.words.specs.Lists.{tab, keep}
-use Rattle.words.proofs.Keep.{keep-append, map-append}
-use Rattle.words.proofs.Lists.{length-tab}
+use borrow.Author.Tests.{eq-eqb, eqb-true}
 use Rattle.words.proofs.Tests.{both-first, both-second}
 use Rattle.format.specs.Layout.{blockBytes, capacity}
 use Rattle.format.specs.Request.{Request}
 use Rattle.format.specs.Block.{block}
 use Rattle.format.specs.Table.{Record, hasMark}
 use Rattle.format.specs.Place.{recordHere, recordsHere}
-use Rattle.judge.specs.NewTable.{sweep}
 use Rattle.places.specs.declared.masks.Each.{Each}
-use Rattle.places.specs.Masks.{apartBy}
-use Rattle.table_write.proofs.Parts.{tab-more}
 use Rattle.table_write.proofs.Places.{recordPut, length-request, here-kept, records-more, block-kept}
-use Rattle.update.specs.Cleared.{keptMarks, clearedBy, keepsAll, leftBy, Settled, Compacted}
-
--- ---- lists of records
-
-records-none : (s : List ℕ) → recordsHere s 0 ≡ []
-unfolding recordsHere tab
-records-none s = refl
-
-records-one : (s : List ℕ) (n : ℕ) → recordsHere s (n + 1) ≡ recordsHere s n ++ (recordHere s n ∷ [])
-unfolding recordsHere
-records-one s n = rw (add-one n, tab-more (recordHere s) 0 n, zero-add)
-
-pub length-here : (s : List ℕ) (n : ℕ) → length (recordsHere s n) ≡ n
-unfolding recordsHere
-length-here s n = length-tab (recordHere s) 0 n
-
--- a record without a mark is swept away, and one with a mark stays
-pub sweep-none : (r : Record) → r .marks ≡ 0 → sweep (r ∷ []) ≡ []
-unfolding sweep keep
-sweep-none r e = rw (eq-eqb (r .marks) 0 e)
-
-pub sweep-one : (r : Record) → (r .marks ≡ 0 → ⊥) → sweep (r ∷ []) ≡ r ∷ []
-unfolding sweep keep
-sweep-one r e = rw (ne-eqb (r .marks) 0 e)
-
-pub length-swept : (r : Record) → length (sweep (r ∷ [])) ≡ cond (eqb (r .marks) 0) 0 1
-unfolding sweep keep
-length-swept r = go (eqb (r .marks) 0)
-  where
-    go : (b : Bool) → length (cond (not b) (r ∷ []) []) ≡ cond b 0 1
-    go true = refl
-    go false = refl
-
--- where no rule ends, records with marks stay as they are, whatever the masks
-same-records : (e : Each) (q : Request) (rs : List Record) → map (clearedBy e q 0) rs ≡ rs
-unfolding clearedBy keptMarks
-same-records e q [] = refl
-same-records e q (r ∷ rs) =
-    ap₂ {C = List Record} (λ m xs. record { request = r .request; marks = m } ∷ xs) (go (r .marks) (bitAnd 0 (apartBy e q (r .request)))) (same-records e q rs)
-  where
-    go : (m a : ℕ) → m - bitAnd m (0 - a) ≡ m
-    go m a = let z : 0 - a ≡ 0 = omega arith in rw (z, and-zero-r m) (omega arith)
-
-pub left-all : (e : Each) (q : Request) (rs : List Record) → sweep rs ≡ rs → leftBy e q 0 rs ≡ rs
-unfolding leftBy
-left-all e q rs h = rw (same-records e q rs) h
-
-pub left-any : (e e′ : Each) (q : Request) (rs : List Record) → leftBy e q 0 rs ≡ leftBy e′ q 0 rs
-unfolding leftBy
-left-any e e′ q rs = ap sweep (same-records e q rs ∙ sym (same-records e′ q rs))
+use Rattle.clearing.specs.Cleared.{clearedBy, leftBy}
+use Rattle.clearing.proofs.Left.{records-none, records-one, left-start, left-more, left-none, left-one}
+use Rattle.update.specs.Compacted.{keepsAll, Settled, Compacted}
 
 module _ (e : Each) (q : Request) (ends : ℕ) where
-  pub left-start : (s : List ℕ) → leftBy e q ends (recordsHere s 0) ≡ []
-  unfolding leftBy sweep keep
-  left-start s = rw (records-none s)
-
-  -- one record more
-  pub left-more : (s : List ℕ) (i : ℕ) → leftBy e q ends (recordsHere s (i + 1)) ≡ leftBy e q ends (recordsHere s i) ++ leftBy e q ends (recordHere s i ∷ [])
-  unfolding leftBy sweep
-  left-more s i =
-      rw (records-one s i, map-append (clearedBy e q ends) (recordsHere s i) (recordHere s i ∷ []))
-      (keep-append hasMark (map (clearedBy e q ends) (recordsHere s i)) (clearedBy e q ends (recordHere s i) ∷ []))
-
-  -- one record
-  pub left-none : (r : Record) → clearedBy e q ends r .marks ≡ 0 → leftBy e q ends (r ∷ []) ≡ []
-  unfolding leftBy
-  left-none r z = sweep-none (clearedBy e q ends r) z
-
-  pub left-one : (r : Record) → (clearedBy e q ends r .marks ≡ 0 → ⊥) → leftBy e q ends (r ∷ []) ≡ clearedBy e q ends r ∷ []
-  unfolding leftBy
-  left-one r z = sweep-one (clearedBy e q ends r) z
-
+  -- a record that keeps its marks stays as it is
   left-same : (r : Record) → (clearedBy e q ends r .marks ≡ 0 → ⊥) → clearedBy e q ends r .marks ≡ r .marks → leftBy e q ends (r ∷ []) ≡ r ∷ []
   unfolding clearedBy
-  left-same r z same = left-one r z ∙ ap {B = List Record} (λ m. record { request = r .request; marks = m } ∷ []) same
+  left-same r z same = left-one e q ends r z ∙ ap {B = List Record} (λ m. record { request = r .request; marks = m } ∷ []) same
 
   -- ---- the records before the first that changes
 
   pub stays-start : (s : List ℕ) → leftBy e q ends (recordsHere s 0) ≡ recordsHere s 0
-  stays-start s = left-start s ∙ sym (records-none s)
+  stays-start s = left-start e q ends s ∙ sym (records-none s)
 
   pub stays-more :
       (s : List ℕ) (i : ℕ) → leftBy e q ends (recordsHere s i) ≡ recordsHere s i → keepsAll e q ends (recordHere s i) ≡ true
@@ -114,7 +39,7 @@ module _ (e : Each) (q : Request) (ends : ℕ) where
       let r = recordHere s i in
       let marked : hasMark r ≡ true = both-first (hasMark r) (eqb (clearedBy e q ends r .marks) (r .marks)) k in
       let same = eqb-true (clearedBy e q ends r .marks) (r .marks) (both-second (hasMark r) (eqb (clearedBy e q ends r .marks) (r .marks)) k) in
-      left-more s i
+      left-more e q ends s i
       ∙ ap₂ {C = List Record} (λ xs ys. xs ++ ys) h (left-same r (λ z. some (r .marks) marked (sym same ∙ z)) same)
       ∙ sym (records-one s i)
     where
@@ -126,7 +51,7 @@ module _ (e : Each) (q : Request) (ends : ℕ) where
   pub dropped : (t : List ℕ) (i j m : ℕ) → m ≡ clearedBy e q ends (recordHere t i) .marks → m ≡ 0 → Settled e q ends t t i j j
   dropped t i j m is z =
       record {
-        records = rw (left-none (recordHere t i) (sym is ∙ z)) (sym (append-nil (recordsHere t j)));
+        records = rw (left-none e q ends (recordHere t i) (sym is ∙ z)) (sym (append-nil (recordsHere t j)));
         later = λ k h. refl;
         apart = λ k h. refl;
         few = omega arith;
@@ -159,7 +84,7 @@ module _ (e : Each) (q : Request) (ends : ℕ) where
             ap (λ (l : List ℕ). recordsHere l (j + 1)) put
             ∙ records-more t b long j (omega arith) (recordHere t i .request) sized m small
             ∙ ap {B = List Record} (λ x. recordsHere t j ++ (record { request = recordHere t i .request; marks = x } ∷ [])) is
-            ∙ ap (λ rs. recordsHere t j ++ rs) (sym (left-one (recordHere t i) (λ z. some (is ∙ z))));
+            ∙ ap (λ rs. recordsHere t j ++ rs) (sym (left-one e q ends (recordHere t i) (λ z. some (is ∙ z))));
         later = λ k h. ap (λ (l : List ℕ). recordHere l k) put ∙ here-kept t b long j (omega arith) (recordHere t i .request) sized m k (λ z. omega arith);
         apart = λ k h. ap (λ (l : List ℕ). block l k) put ∙ block-kept t b long j (omega arith) (recordHere t i .request) sized m k h;
         few = omega arith;
@@ -188,7 +113,7 @@ module _ (e : Each) (q : Request) (ends : ℕ) where
         records =
             d .records
             ∙ ap₂ {C = List Record} (λ rs x. rs ++ leftBy e q ends (x ∷ [])) (c .records) (c .later i (omega arith))
-            ∙ sym (left-more s i);
+            ∙ sym (left-more e q ends s i);
         later = λ k h. d .later k (omega arith) ∙ c .later k (omega arith);
         before = λ k h. d .apart k (λ z. omega (arith, c .some)) ∙ c .before k h;
         behind = λ k h. d .apart k (λ z. omega (arith, c .few)) ∙ c .behind k (omega arith);

@@ -1,10 +1,10 @@
 -- The numbers of bits and the judge: where the bits of a number say which rules judge, clearing by bits is the judge's clearing, and the new table is
 -- the judge's.
 -- Assumes nothing.
-use Prim.Native.Nat.{ℕ, _+_, _-_, _^_, _<_}
+use Prim.Native.Nat.{ℕ, zero, suc, _+_, _-_, _^_, _<_}
 use native.Mathlib.Omega.{arith}
 use mathlib.Core.Path.{_≡_, refl, sym, ap, ap₂, _∙_}
-use mathlib.Core.Bool.{Bool, true, false, not, _&&_}
+use mathlib.Core.Bool.{Bool, true, false, cond, not, _&&_}
 use mathlib.Core.List.{List, [], _∷_, _++_}
 use lib.Bits.{bitAnd}
 use Rattle.words.specs.Bytes.{bit, bits}
@@ -19,8 +19,22 @@ use Rattle.judge.specs.Verdict.{isLast, judges}
 use Rattle.judge.specs.NewTable.{ends, gives, recordOf, cleared, sweep, newTable}
 use Rattle.places.specs.declared.masks.Each.{Each}
 use Rattle.places.specs.Masks.{apartIn, apartBy}
-use Rattle.update.specs.Cleared.{endsBy, givesBy, keptMarks, clearedBy, leftBy, afterBy}
-use Rattle.update.proofs.Masks.{bits-split}
+use Rattle.clearing.specs.Cleared.{endsBy, keptMarks, clearedBy, leftBy, afterBy}
+use Rattle.update.specs.Updating.{givesBy}
+
+-- what two tests part, they add up to
+bits-split : (n : ℕ) (f g : ℕ → Bool) → bits n (λ i. f i && g i) + bits n (λ i. f i && not (g i)) ≡ bits n f
+unfolding bits
+bits-split zero f g = refl
+bits-split (suc n) f g = go (bits-split n f g) (f n) (g n)
+  where
+    go :
+        bits n (λ i. f i && g i) + bits n (λ i. f i && not (g i)) ≡ bits n f → (a b : Bool)
+        → bits n (λ i. f i && g i) + cond (a && b) (2 ^ n) 0 + (bits n (λ i. f i && not (g i)) + cond (a && not b) (2 ^ n) 0)
+        ≡ bits n f + cond a (2 ^ n) 0
+    go h true true = omega arith
+    go h true false = omega arith
+    go h false b = omega arith
 
 -- what ends and what is given are the rules that judge
 pub parts-add :

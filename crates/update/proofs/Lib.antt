@@ -1,5 +1,3 @@
-pub mod Policies
-pub mod Masks
 pub mod Compaction
 pub mod Standing
 pub mod Marks

@@ -3,11 +3,10 @@
 use Prim.Native.Nat.{ℕ, _+_, _-_}
 use native.Mathlib.Omega.{arith}
 use mathlib.Core.Path.{_≡_}
-use mathlib.Core.Bool.{Bool, true, false, cond, not}
+use mathlib.Core.Bool.{Bool, true, false, not}
 use mathlib.Core.List.{List, [], _∷_, map}
 use lib.ListN.{length, length-append, length-map}
-use lib.Dec.{eqb, leb}
-use borrow.Author.Tests.{eq-eqb, ne-eqb}
+use lib.Dec.{leb}
 use Rattle.words.specs.Lists.{keep}
 use Rattle.words.specs.First.{unless}
 use Rattle.words.proofs.Keep.{keep-split}
@@ -48,10 +47,3 @@ module _ (policy table q : List ℕ) where
       → _≡_ {A = Outcome (List ℕ)} (record { answer = a; state = s }) (updateOf policy table q)
   unfolding updateOf refusing unless
   fits-in a s e ea es = rw (e, ea, es)
-
--- the number recorded
-pub recorded-none : (gives : ℕ) → gives ≡ 0 → _≡_ {A = ℕ} (cond (eqb gives 0) 0 1) 0
-recorded-none gives e = rw (eq-eqb gives 0 e)
-
-pub recorded-one : (gives : ℕ) → (gives ≡ 0 → ⊥) → _≡_ {A = ℕ} (cond (eqb gives 0) 0 1) 1
-recorded-one gives e = rw (ne-eqb gives 0 e)

@@ -20,7 +20,8 @@ use Rattle.format.proofs.RecordImage.{Whole}
 use Rattle.format.proofs.Accepted.{accepted-length, accepted-image, accepted-records}
 use Rattle.judge.specs.NewTable.{sweep}
 use Rattle.table_write.proofs.Places.{image-here}
-use Rattle.update.specs.Standing.{Stands, Holds, AllMarked}
+use Rattle.clearing.specs.Holding.{Holds, AllMarked}
+use Rattle.update.specs.Standing.{Stands}
 
 pub record Standing (policy : List ℕ) (t : Sums) (s : List ℕ) (n : ℕ) : Type 0 where
   pub image : s ≡ tableImage t (blocks s) (recordsHere s n)

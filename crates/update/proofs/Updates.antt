@@ -15,24 +15,28 @@ use Rattle.words.proofs.Every.{Every, every-both, every-weaken}
 use Rattle.format.specs.Answer.{Answer, grant, refuse, refusal, Outcome}
 use Rattle.format.specs.Layout.{capacity}
 use Rattle.format.specs.Block.{blocks}
-use Rattle.format.specs.Policy.{Policy, policyOf, stamp}
+use Rattle.format.specs.Policy.{Policy, policyOf, ruleCount, stamp}
 use Rattle.format.specs.Table.{Record, goodRecord, recordsOf, tableImage}
 use Rattle.format.specs.Place.{recordsHere}
 use Rattle.format.proofs.RecordImage.{Whole}
+use Rattle.format.proofs.AcceptedPolicy.{rules-most}
 use Rattle.judge.specs.Verdict.{judges}
 use Rattle.judge.specs.NewTable.{openIn, recordOf, sweep, tableAfter}
 use Rattle.places.specs.declared.masks.Each.{Each}
 use Rattle.places.specs.Masks.{eachAt, EachOf}
 use Rattle.places.proofs.Apart.{apart-is}
-use Rattle.update.specs.Cleared.{Given, endsBy, givesBy, afterBy}
-use Rattle.update.specs.Updating.{judgingOf, updateOf}
-use Rattle.update.proofs.Policies.{rules-of, few-of}
+use Rattle.clearing.specs.Cleared.{Given, endsBy, afterBy}
+use Rattle.clearing.proofs.Left.{length-here, length-swept}
+use Rattle.clearing.proofs.After.{after-any, after-few}
+use Rattle.update.specs.Updating.{givesBy, judgingOf, updateOf}
 use Rattle.update.proofs.Standing.{Standing}
 use Rattle.update.proofs.Marks.{marks-below}
-use Rattle.update.proofs.Compaction.{length-here, length-swept}
-use Rattle.update.proofs.AfterLaws.{after-any, after-few}
 use Rattle.update.proofs.Judged.{parts-add, record-same, after-same}
 use Rattle.update.proofs.Outcomes.{grant-numbers, full, fits-in}
+
+rules-of : (s : List ℕ) → policyOf s .rules ≡ ruleCount s
+unfolding policyOf
+rules-of s = refl
 
 -- a policy's masks
 eachOf : Policy → Each
@@ -44,6 +48,9 @@ each-of p = record { at-first = refl; at-second = refl; at-third = refl; at-four
 
 module _ {policy : List ℕ} {rules : ℕ} {q : List ℕ} {t : Sums} {s : List ℕ} {n judging ends : ℕ} (g : Given policy rules q)
     (st : Standing policy t s n) (is : judging ≡ judgingOf policy s q) (es : ends ≡ bits rules (endsBy (policyOf policy) q judging)) where
+  few-of : policyOf policy .rules ≤ 32
+  few-of = omega (arith, rules-of policy, rules-most policy (g .accepted))
+
   agree : (i : ℕ) → i < policyOf policy .rules → bit i judging ≡ judges (policyOf policy .rule i) q (openIn (policyOf policy) (recordsOf s) q i)
   unfolding judgingOf
   agree i h =
@@ -73,7 +80,7 @@ module _ {policy : List ℕ} {rules : ℕ} {q : List ℕ} {t : Sums} {s : List �
   below : Every (λ r. r .marks < 2 ^ policyOf policy .rules) (recordsOf s)
   below =
       rw (← st .here)
-      (every-weaken (λ r h. marks-below (policyOf policy) (few-of g) r (h .0) (h .1 .marks-fit))
+      (every-weaken (λ r h. marks-below (policyOf policy) (few-of) r (h .0) (h .1 .marks-fit))
       (every-both (λ r. goodRecord (policyOf policy) r ≡ true) Whole (st .good) (st .whole)))
 
   after-by : (e : Each) → EachOf (policyOf policy) e → afterBy e q ends (judging - ends) (recordsHere s n) ≡ tableAfter (policyOf policy) (recordsOf s) q

@@ -1,3 +1,3 @@
-pub mod Cleared
+pub mod Compacted
 pub mod Standing
 pub mod Updating

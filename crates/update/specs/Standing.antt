@@ -1,30 +1,16 @@
 -- What the code is given of a table.
 -- Assumes nothing.
-use Prim.Native.Nat.{ℕ, _*_, _≤_}
+use Prim.Native.Nat.{ℕ}
 use mathlib.Core.Path.{_≡_}
 use mathlib.Core.List.{List}
 use mathlib.Core.Option.{none}
 use lib.ListN.{length}
 use Rattle.words.specs.Sums.{Sums}
-use Rattle.format.specs.Layout.{blockBytes, tableBlocks, capacity}
-use Rattle.format.specs.Block.{blocks}
 use Rattle.format.specs.Policy.{stamp}
 use Rattle.format.specs.Table.{tableFault, recordsOf}
-use Rattle.format.specs.Place.{recordsHere}
-use Rattle.judge.specs.NewTable.{sweep}
 
 -- it is accepted, and n records stand in it
 pub record Stands (policy : List ℕ) (t : Sums) (s : List ℕ) (n : ℕ) : Type 0 where
   pub accepted-table : tableFault policy s ≡ none
   pub stamp-is : t ≡ stamp policy
   pub held-are : n ≡ length (recordsOf s)
-
--- it is some blocks that have room for n records
-pub record Holds (s : List ℕ) (n : ℕ) : Type 0 where
-  pub long : length s ≡ blockBytes * blocks s
-  pub few : blocks s ≤ tableBlocks
-  pub fit : n ≤ capacity (blocks s)
-
--- and each of the n has a mark
-abbrev pub AllMarked : List ℕ → ℕ → Type 0
-AllMarked s n = sweep (recordsHere s n) ≡ recordsHere s n

@@ -1,17 +1,19 @@
 -- Steps 4 and 5 over bytes: what they answer, and the table that they leave.
 -- Assumes nothing.
 use Prim.Native.Nat.{ℕ}
+use mathlib.Core.Bool.{Bool, not, _&&_}
 use mathlib.Core.List.{List}
 use lib.ListN.{length}
 use lib.Dec.{leb}
 use Rattle.words.specs.First.{unless}
-use Rattle.words.specs.Bytes.{bits}
+use Rattle.words.specs.Bytes.{bit, bits}
 use Rattle.format.specs.Answer.{Answer, grant, refuse, refusal, Outcome, refusing}
 use Rattle.format.specs.Layout.{capacity}
 use Rattle.format.specs.Block.{blocks}
-use Rattle.format.specs.Policy.{policyOf, stamp}
+use Rattle.format.specs.Request.{Request}
+use Rattle.format.specs.Policy.{Policy, policyOf, stamp}
 use Rattle.format.specs.Table.{recordsOf, tableImage}
-use Rattle.judge.specs.Verdict.{judges}
+use Rattle.judge.specs.Verdict.{isLast, judges}
 use Rattle.judge.specs.NewTable.{openIn, grantOf, tableAfter}
 use Rattle.update.specs.declared.grant.Grant as declared
 use Rattle.update.specs.declared.grant.Updated.{Updated}
@@ -26,6 +28,10 @@ answerOf (Granted g) = grant (g .recorded) (g .removed) (g .held)
 unfoldable pub judgingOf : List ℕ → List ℕ → List ℕ → ℕ
 judgingOf policy table q =
     bits (policyOf policy .rules) (λ i. judges (policyOf policy .rule i) q (openIn (policyOf policy) (recordsOf table) q i))
+
+-- rule i judges, by the bits of a number, and this is not its last step
+unfoldable pub givesBy : Policy → Request → ℕ → ℕ → Bool
+givesBy p q judging i = bit i judging && not (isLast (p .rule i) q)
 
 -- what a request that has passed steps 1 to 3 gets: the refusal 34 and the table as it was, or the grant and the new table
 unfoldable pub updateOf : List ℕ → List ℕ → List ℕ → Outcome (List ℕ)

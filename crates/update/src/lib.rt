@@ -1,5 +1,3 @@
 // Steps 4 and 5 of the judge on bytes: marks cleared, records removed, the request recorded, the table written.
-pub mod clearing;
 pub mod grant;
-pub mod room;
 pub mod table_after;

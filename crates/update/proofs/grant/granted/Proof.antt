@@ -3,7 +3,7 @@
 use native.Mathlib.Omega.{arith}
 use mathlib.Core.Path.{ap}
 use Rattle.format.specs.Answer.{Answer, grant}
-use Rattle.update.proofs.Outcomes.{recorded-none, recorded-one}
+use Rattle.clearing.proofs.After.{recorded-none, recorded-one}
 use borrow.Author.Needs.{needs}
 use Rattle.update.proofs.grant.granted.Statement.{statement}
 use Rattle.update.proofs.grant.granted.Tie as tie

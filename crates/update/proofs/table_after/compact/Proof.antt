@@ -3,7 +3,7 @@
 use Prim.Native.Nat.{_-_, _≤_}
 use native.Mathlib.Omega.{arith}
 use mathlib.Core.Path.{_≡_}
-use Rattle.update.specs.Cleared.{Compacted}
+use Rattle.update.specs.Compacted.{Compacted}
 use Rattle.update.proofs.Compaction.{compact-start, compact-turn}
 use Rattle.update.proofs.Standing.{same-room}
 use borrow.Author.Needs.{needs}

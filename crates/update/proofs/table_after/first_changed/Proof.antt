@@ -5,8 +5,9 @@ use native.Mathlib.Omega.{arith}
 use mathlib.Core.Path.{_≡_, sym, _∙_}
 use borrow.Author.Tests.{not-false}
 use Rattle.format.specs.Place.{recordsHere}
-use Rattle.update.specs.Cleared.{leftBy}
-use Rattle.update.proofs.Compaction.{left-all, stays-start, stays-more}
+use Rattle.clearing.specs.Cleared.{leftBy}
+use Rattle.clearing.proofs.Left.{left-all}
+use Rattle.update.proofs.Compaction.{stays-start, stays-more}
 use borrow.Author.Needs.{needs}
 use Rattle.update.proofs.table_after.first_changed.Statement.{statement}
 use Rattle.update.proofs.table_after.first_changed.Tie as tie

@@ -2,7 +2,8 @@
 -- Assumes nothing.
 use mathlib.Core.Path.{_≡_}
 use Rattle.format.specs.Place.{recordHere}
-use Rattle.update.specs.Cleared.{clearedBy, keepsAll}
+use Rattle.clearing.specs.Cleared.{clearedBy}
+use Rattle.update.specs.Compacted.{keepsAll}
 use borrow.Author.Needs.{needs}
 use Rattle.update.proofs.table_after.keeps_all.Statement.{statement}
 use Rattle.update.proofs.table_after.keeps_all.Tie as tie

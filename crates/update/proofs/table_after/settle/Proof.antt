@@ -1,6 +1,6 @@
 -- `crate::table_after::settle` meets its contract: the record goes, or stays where it is, or moves to its new place.
 -- Assumes nothing.
-use Prim.Native.Nat.{ℕ, _+_}
+use Prim.Native.Nat.{ℕ}
 use native.Mathlib.Omega.{arith}
 use mathlib.Core.Path.{_≡_, ap, ap₂, _∙_}
 use mathlib.Core.List.{List, _++_}
@@ -11,7 +11,7 @@ use Rattle.words.proofs.Tests.{both-first, both-second}
 use Rattle.format.specs.Block.{blocks}
 use Rattle.format.specs.Place.{recordFrom, recordHere}
 use Rattle.table_write.specs.Writing.{over}
-use Rattle.update.specs.Cleared.{clearedBy}
+use Rattle.clearing.specs.Cleared.{clearedBy}
 use Rattle.update.proofs.Compaction.{dropped, stayed, moved}
 use borrow.Author.Needs.{needs}
 use Rattle.update.proofs.table_after.settle.Statement.{statement}

@@ -12,9 +12,10 @@ use Rattle.format.specs.Block.{blocks}
 use Rattle.format.specs.Table.{tableImage}
 use Rattle.format.specs.Place.{recordsHere}
 use Rattle.table_write.proofs.SliceBytes.{slice-bytes}
-use Rattle.update.specs.Cleared.{afterBy}
-use Rattle.update.proofs.Compaction.{length-here}
-use Rattle.update.proofs.AfterLaws.{stay-none, length-none, length-one, room-none, room-one, outside-none, outside-one, image-none, image-one}
+use Rattle.clearing.specs.Cleared.{afterBy}
+use Rattle.clearing.proofs.Left.{length-here}
+use Rattle.clearing.proofs.After.{stay-none}
+use Rattle.update.proofs.AfterLaws.{length-none, length-one, room-none, room-one, outside-none, outside-one, image-none, image-one}
 use borrow.Author.Needs.{needs}
 use Rattle.update.proofs.table_after.write_after.Statement.{statement}
 use Rattle.update.proofs.table_after.write_after.Tie as tie

@@ -8,13 +8,12 @@ use lib.ListN.{length}
 use borrow.Author.Tests.{le-leb, lt-leb}
 use Rattle.format.specs.Block.{blocks}
 use Rattle.format.specs.Place.{recordsHere}
-use Rattle.update.specs.Cleared.{leftBy, afterBy}
-use Rattle.update.proofs.Compaction.{length-here, left-all}
-use Rattle.update.proofs.AfterLaws.{after-few, after-count, stay-length}
-use Rattle.update.proofs.Outcomes.{recorded-none, recorded-one}
+use Rattle.clearing.specs.Cleared.{leftBy, afterBy}
+use Rattle.clearing.proofs.Left.{length-here, left-all}
+use Rattle.clearing.proofs.After.{after-few, after-count, stay-length, recorded-none, recorded-one}
 use borrow.Author.Needs.{needs}
-use Rattle.update.proofs.room.has_room.Statement.{statement}
-use Rattle.update.proofs.room.has_room.Tie as tie
+use Rattle.clearing.proofs.room.has_room.Statement.{statement}
+use Rattle.clearing.proofs.room.has_room.Tie as tie
 
 -- how many records the new table has
 held : (c : tie.After-shared-slice-known2) → ℕ

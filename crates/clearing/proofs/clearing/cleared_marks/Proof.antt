@@ -5,11 +5,11 @@ use mathlib.Core.Path.{sym, ap, ap₂, _∙_}
 use lib.Bits.{bitAnd}
 use Rattle.words.specs.Bytes.{part}
 use Rattle.places.specs.Masks.{apartBy}
-use Rattle.update.specs.Cleared.{keptMarks, clearedBy}
-use Rattle.update.proofs.Masks.{none-taken}
+use Rattle.clearing.specs.Cleared.{keptMarks, clearedBy}
+use Rattle.clearing.proofs.Masks.{none-taken}
 use borrow.Author.Needs.{needs}
-use Rattle.update.proofs.clearing.cleared_marks.Statement.{statement}
-use Rattle.update.proofs.clearing.cleared_marks.Tie as tie
+use Rattle.clearing.proofs.clearing.cleared_marks.Statement.{statement}
+use Rattle.clearing.proofs.clearing.cleared_marks.Tie as tie
 
 add-u32-at : tie.Need-add-u32-at
 add-u32-at c = search needs

@@ -6,11 +6,11 @@ use mathlib.Core.Path.{_≡_, sym, ap, ap₂, _∙_}
 use mathlib.Core.List.{[], _∷_}
 use lib.ListN.{length, length-append}
 use Rattle.format.specs.Place.{recordHere, recordsHere}
-use Rattle.update.specs.Cleared.{leftBy}
-use Rattle.update.proofs.Compaction.{left-start, left-more}
+use Rattle.clearing.specs.Cleared.{leftBy}
+use Rattle.clearing.proofs.Left.{left-start, left-more}
 use borrow.Author.Needs.{needs}
-use Rattle.update.proofs.room.kept.Statement.{statement}
-use Rattle.update.proofs.room.kept.Tie as tie
+use Rattle.clearing.proofs.room.kept.Statement.{statement}
+use Rattle.clearing.proofs.room.kept.Tie as tie
 
 abbrev Inv-loop : tie.InvT-loop
 Inv-loop each q table n ends count₀ i₀ count i = (i ≤ n) × ((count ≤ i) × (count ≡ length (leftBy each q ends (recordsHere table i))))

@@ -4,11 +4,11 @@ use native.Mathlib.Omega.{arith}
 use mathlib.Core.Path.{_≡_, sym, ap, _∙_}
 use lib.ListN.{length}
 use Rattle.format.specs.Place.{recordFrom, recordHere}
-use Rattle.update.specs.Cleared.{clearedBy}
-use Rattle.update.proofs.Compaction.{left-none, left-one}
+use Rattle.clearing.specs.Cleared.{clearedBy}
+use Rattle.clearing.proofs.Left.{left-none, left-one}
 use borrow.Author.Needs.{needs}
-use Rattle.update.proofs.room.stays.Statement.{statement}
-use Rattle.update.proofs.room.stays.Tie as tie
+use Rattle.clearing.proofs.room.stays.Statement.{statement}
+use Rattle.clearing.proofs.room.stays.Tie as tie
 
 record-place-requires : tie.Need-record-place-requires
 record-place-requires c κs = search needs

@@ -7,12 +7,12 @@ use Rattle.words.specs.Bytes.{part}
 use Rattle.format.specs.Rule.{ruleAt}
 use Rattle.format.specs.Policy.{policyOf}
 use Rattle.judge.specs.Verdict.{isLast}
-use Rattle.update.specs.Cleared.{endsBy}
-use Rattle.update.proofs.Policies.{few-rules, block-inside}
-use Rattle.update.proofs.Masks.{first-fails, first-passes}
+use Rattle.clearing.specs.Cleared.{endsBy}
+use Rattle.clearing.proofs.Policies.{few-rules, block-inside}
+use Rattle.clearing.proofs.Masks.{first-fails, first-passes}
 use borrow.Author.Needs.{needs}
-use Rattle.update.proofs.clearing.ends_here.Statement.{statement}
-use Rattle.update.proofs.clearing.ends_here.Tie as tie
+use Rattle.clearing.proofs.clearing.ends_here.Statement.{statement}
+use Rattle.clearing.proofs.clearing.ends_here.Tie as tie
 
 bit-requires : tie.Need-bit-requires
 bit-requires c κs = omega (arith, few-rules (c .before .before .pre .0))

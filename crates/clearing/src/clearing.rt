@@ -5,7 +5,7 @@ ghost use lib.ListN.{length};
 ghost use Rattle.words.specs.Bytes.{bits};
 ghost use Rattle.format.specs.Policy.{policyOf};
 ghost use Rattle.format.specs.Place.{recordFrom};
-ghost use Rattle.update.specs.Cleared.{Given, endsBy, clearedBy};
+ghost use Rattle.clearing.specs.Cleared.{Given, endsBy, clearedBy};
 use places::masks::Each;
 use places::masks::apart;
 use places::masks::without;

@@ -5,12 +5,12 @@ use native.Mathlib.Omega.{arith}
 use mathlib.Core.Path.{_≡_, sym}
 use Rattle.words.specs.Bytes.{bits}
 use Rattle.format.specs.Policy.{policyOf}
-use Rattle.update.specs.Cleared.{endsBy}
-use Rattle.update.proofs.Policies.{few-rules}
+use Rattle.clearing.specs.Cleared.{endsBy}
+use Rattle.clearing.proofs.Policies.{few-rules}
 use Rattle.words.proofs.BitLaws.{bits-start, bits-more, bits-fit}
 use borrow.Author.Needs.{needs}
-use Rattle.update.proofs.clearing.ending.Statement.{statement}
-use Rattle.update.proofs.clearing.ending.Tie as tie
+use Rattle.clearing.proofs.clearing.ending.Statement.{statement}
+use Rattle.clearing.proofs.clearing.ending.Tie as tie
 
 abbrev Inv-loop : tie.InvT-loop
 Inv-loop policy rules q judging ends₀ i₀ ends i = (i ≤ rules) × (ends ≡ bits i (endsBy (policyOf policy) q judging))

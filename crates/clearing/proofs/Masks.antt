@@ -1,27 +1,13 @@
--- Numbers of bits: parted by a test, and with the bits of another taken off.
+-- Numbers of bits with the bits of another taken off, and two tests one after the other.
 -- Assumes nothing.
-use Prim.Native.Nat.{ℕ, zero, suc, _+_, _-_, _^_, _<_}
+use Prim.Native.Nat.{ℕ, _-_, _<_}
 use native.Mathlib.Omega.{arith}
 use mathlib.Core.Path.{_≡_, refl, sym, ap, _∙_}
-use mathlib.Core.Bool.{Bool, true, false, cond, not, _&&_, false≢true}
+use mathlib.Core.Bool.{Bool, true, false, not, _&&_, false≢true}
 use lib.Bits.{bitAnd, and-le-l}
-use Rattle.words.specs.Bytes.{bit, bits}
+use Rattle.words.specs.Bytes.{bit}
 use Rattle.words.proofs.Bits.{bit-none}
 use Rattle.words.proofs.BitLaws.{bit-and, bit-without, same-bits}
-
--- what two tests part, they add up to
-pub bits-split : (n : ℕ) (f g : ℕ → Bool) → bits n (λ i. f i && g i) + bits n (λ i. f i && not (g i)) ≡ bits n f
-unfolding bits
-bits-split zero f g = refl
-bits-split (suc n) f g = go (bits-split n f g) (f n) (g n)
-  where
-    go :
-        bits n (λ i. f i && g i) + bits n (λ i. f i && not (g i)) ≡ bits n f → (a b : Bool)
-        → bits n (λ i. f i && g i) + cond (a && b) (2 ^ n) 0 + (bits n (λ i. f i && not (g i)) + cond (a && not b) (2 ^ n) 0)
-        ≡ bits n f + cond a (2 ^ n) 0
-    go h true true = omega arith
-    go h true false = omega arith
-    go h false b = omega arith
 
 -- a number has none of the bits that end, so none is taken off
 pub none-taken : (m ends a : ℕ) → m < 4294967296 → bitAnd m ends ≡ 0 → m - bitAnd m (ends - bitAnd ends a) ≡ m

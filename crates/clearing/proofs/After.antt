@@ -1,0 +1,70 @@
+-- The records that a table holds after a grant, and their number.
+-- Assumes nothing.
+use Prim.Native.Nat.{ℕ, _+_, _≤_}
+use native.Mathlib.Omega.{arith}
+use mathlib.Core.Path.{_≡_, sym, ap, _∙_}
+use mathlib.Core.Bool.{cond}
+use mathlib.Core.List.{List, [], _∷_, _++_, map, append-nil}
+use lib.ListN.{length, length-append, length-map}
+use lib.Dec.{eqb}
+use borrow.Author.Tests.{eq-eqb, ne-eqb}
+use Rattle.words.proofs.Keep.{keep-split}
+use Rattle.format.specs.Request.{Request}
+use Rattle.format.specs.Table.{Record, hasMark}
+use Rattle.format.specs.Place.{recordsHere}
+use Rattle.judge.specs.NewTable.{sweep}
+use Rattle.places.specs.declared.masks.Each.{Each}
+use Rattle.clearing.specs.Cleared.{clearedBy, leftBy, afterBy}
+use Rattle.clearing.proofs.Left.{sweep-none, sweep-one, length-here, length-swept, left-any}
+
+-- where no rule ends, the masks do not matter
+pub after-any : (e e′ : Each) (q : Request) (ends gives : ℕ) (rs : List Record) → ends ≡ 0 → afterBy e q ends gives rs ≡ afterBy e′ q ends gives rs
+unfolding afterBy
+after-any e e′ q ends gives rs z = rw z (ap (λ xs. xs ++ sweep (record { request = q; marks = gives } ∷ [])) (left-any e e′ q rs))
+
+module _ (e : Each) (q : Request) (ends : ℕ) where
+  pub after-none : (gives : ℕ) (rs : List Record) → gives ≡ 0 → afterBy e q ends gives rs ≡ leftBy e q ends rs
+  unfolding afterBy
+  after-none gives rs z = rw (sweep-none (record { request = q; marks = gives }) z) (append-nil (leftBy e q ends rs))
+
+  pub after-one :
+      (gives : ℕ) (rs : List Record) → (gives ≡ 0 → ⊥)
+      → afterBy e q ends gives rs ≡ leftBy e q ends rs ++ (record { request = q; marks = gives } ∷ [])
+  unfolding afterBy
+  after-one gives rs z = rw (sweep-one (record { request = q; marks = gives }) z)
+
+  -- their number
+  left-few : (rs : List Record) → length (leftBy e q ends rs) ≤ length rs
+  unfolding leftBy sweep
+  left-few rs = omega (arith, keep-split hasMark (map (clearedBy e q ends) rs), length-map rs (clearedBy e q ends))
+
+  pub after-count : (gives : ℕ) (rs : List Record) → (gives ≡ 0 → ⊥) → length (afterBy e q ends gives rs) ≡ length (leftBy e q ends rs) + 1
+  after-count gives rs z =
+      ap length (after-one gives rs z) ∙ length-append (leftBy e q ends rs) (record { request = q; marks = gives } ∷ [])
+
+  pub after-few : (gives : ℕ) (rs : List Record) → length (afterBy e q ends gives rs) ≤ length rs + cond (eqb gives 0) 0 1
+  unfolding afterBy
+  after-few gives rs =
+      omega (
+        arith,
+        left-few rs,
+        length-append (leftBy e q ends rs) (sweep (record { request = q; marks = gives } ∷ [])),
+        length-swept (record { request = q; marks = gives }),
+      )
+
+-- ---- where no record changes
+
+module _ (e : Each) (q : Request) (ends gives : ℕ) (s : List ℕ) (n : ℕ) (stay : leftBy e q ends (recordsHere s n) ≡ recordsHere s n) where
+  pub stay-none : gives ≡ 0 → afterBy e q ends gives (recordsHere s n) ≡ recordsHere s n
+  stay-none z = after-none e q ends gives (recordsHere s n) z ∙ stay
+
+  pub stay-length : (gives ≡ 0 → ⊥) → n + 1 ≡ length (afterBy e q ends gives (recordsHere s n))
+  stay-length z =
+      sym (after-count e q ends gives (recordsHere s n) z ∙ ap (λ (rs : List Record). length rs + 1) stay ∙ ap (λ (m : ℕ). m + 1) (length-here s n))
+
+-- the number recorded
+pub recorded-none : (gives : ℕ) → gives ≡ 0 → _≡_ {A = ℕ} (cond (eqb gives 0) 0 1) 0
+recorded-none gives e = rw (eq-eqb gives 0 e)
+
+pub recorded-one : (gives : ℕ) → (gives ≡ 0 → ⊥) → _≡_ {A = ℕ} (cond (eqb gives 0) 0 1) 1
+recorded-one gives e = rw (ne-eqb gives 0 e)

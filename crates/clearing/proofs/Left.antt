@@ -1,0 +1,94 @@
+-- The records that are left of those in a table: none, one more, and all of them where no rule ends.
+-- Assumes nothing.
+use Prim.Native.Nat.{ℕ, _+_, _-_}
+use native.Mathlib.Nat.{zero-add}
+use native.Mathlib.Numerals.{add-one}
+use native.Mathlib.Omega.{arith}
+use mathlib.Core.Path.{_≡_, refl, sym, ap, ap₂, _∙_}
+use mathlib.Core.Bool.{Bool, true, false, cond, not}
+use mathlib.Core.List.{List, [], _∷_, _++_, map}
+use lib.Bits.{and-zero-r, bitAnd}
+use lib.ListN.{length}
+use lib.Dec.{eqb}
+use borrow.Author.Tests.{eq-eqb, ne-eqb}
+use Rattle.words.specs.Lists.{tab, keep}
+use Rattle.words.proofs.Keep.{keep-append, map-append}
+use Rattle.words.proofs.Lists.{length-tab}
+use Rattle.format.specs.Request.{Request}
+use Rattle.format.specs.Table.{Record, hasMark}
+use Rattle.format.specs.Place.{recordHere, recordsHere}
+use Rattle.judge.specs.NewTable.{sweep}
+use Rattle.places.specs.declared.masks.Each.{Each}
+use Rattle.places.specs.Masks.{apartBy}
+use Rattle.table_write.proofs.Parts.{tab-more}
+use Rattle.clearing.specs.Cleared.{keptMarks, clearedBy, leftBy}
+
+-- ---- lists of records
+
+pub records-none : (s : List ℕ) → recordsHere s 0 ≡ []
+unfolding recordsHere tab
+records-none s = refl
+
+pub records-one : (s : List ℕ) (n : ℕ) → recordsHere s (n + 1) ≡ recordsHere s n ++ (recordHere s n ∷ [])
+unfolding recordsHere
+records-one s n = rw (add-one n, tab-more (recordHere s) 0 n, zero-add)
+
+pub length-here : (s : List ℕ) (n : ℕ) → length (recordsHere s n) ≡ n
+unfolding recordsHere
+length-here s n = length-tab (recordHere s) 0 n
+
+-- a record without a mark is swept away, and one with a mark stays
+pub sweep-none : (r : Record) → r .marks ≡ 0 → sweep (r ∷ []) ≡ []
+unfolding sweep keep
+sweep-none r e = rw (eq-eqb (r .marks) 0 e)
+
+pub sweep-one : (r : Record) → (r .marks ≡ 0 → ⊥) → sweep (r ∷ []) ≡ r ∷ []
+unfolding sweep keep
+sweep-one r e = rw (ne-eqb (r .marks) 0 e)
+
+pub length-swept : (r : Record) → length (sweep (r ∷ [])) ≡ cond (eqb (r .marks) 0) 0 1
+unfolding sweep keep
+length-swept r = go (eqb (r .marks) 0)
+  where
+    go : (b : Bool) → length (cond (not b) (r ∷ []) []) ≡ cond b 0 1
+    go true = refl
+    go false = refl
+
+-- where no rule ends, records with marks stay as they are, whatever the masks
+same-records : (e : Each) (q : Request) (rs : List Record) → map (clearedBy e q 0) rs ≡ rs
+unfolding clearedBy keptMarks
+same-records e q [] = refl
+same-records e q (r ∷ rs) =
+    ap₂ {C = List Record} (λ m xs. record { request = r .request; marks = m } ∷ xs) (go (r .marks) (bitAnd 0 (apartBy e q (r .request)))) (same-records e q rs)
+  where
+    go : (m a : ℕ) → m - bitAnd m (0 - a) ≡ m
+    go m a = let z : 0 - a ≡ 0 = omega arith in rw (z, and-zero-r m) (omega arith)
+
+pub left-all : (e : Each) (q : Request) (rs : List Record) → sweep rs ≡ rs → leftBy e q 0 rs ≡ rs
+unfolding leftBy
+left-all e q rs h = rw (same-records e q rs) h
+
+pub left-any : (e e′ : Each) (q : Request) (rs : List Record) → leftBy e q 0 rs ≡ leftBy e′ q 0 rs
+unfolding leftBy
+left-any e e′ q rs = ap sweep (same-records e q rs ∙ sym (same-records e′ q rs))
+
+module _ (e : Each) (q : Request) (ends : ℕ) where
+  pub left-start : (s : List ℕ) → leftBy e q ends (recordsHere s 0) ≡ []
+  unfolding leftBy sweep keep
+  left-start s = rw (records-none s)
+
+  -- one record more
+  pub left-more : (s : List ℕ) (i : ℕ) → leftBy e q ends (recordsHere s (i + 1)) ≡ leftBy e q ends (recordsHere s i) ++ leftBy e q ends (recordHere s i ∷ [])
+  unfolding leftBy sweep
+  left-more s i =
+      rw (records-one s i, map-append (clearedBy e q ends) (recordsHere s i) (recordHere s i ∷ []))
+      (keep-append hasMark (map (clearedBy e q ends) (recordsHere s i)) (clearedBy e q ends (recordHere s i) ∷ []))
+
+  -- one record
+  pub left-none : (r : Record) → clearedBy e q ends r .marks ≡ 0 → leftBy e q ends (r ∷ []) ≡ []
+  unfolding leftBy
+  left-none r z = sweep-none (clearedBy e q ends r) z
+
+  pub left-one : (r : Record) → (clearedBy e q ends r .marks ≡ 0 → ⊥) → leftBy e q ends (r ∷ []) ≡ clearedBy e q ends r ∷ []
+  unfolding leftBy
+  left-one r z = sweep-one (clearedBy e q ends r) z

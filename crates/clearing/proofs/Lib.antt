@@ -1,0 +1,4 @@
+pub mod Policies
+pub mod Masks
+pub mod Left
+pub mod After
