@@ -1,7 +1,7 @@
 // Check a policy; check a table under a policy; make a fresh table.
 ghost use mathlib.Core.Path.{_≡_};
 ghost use mathlib.Core.Option.{none};
-ghost use Rattle.words.specs.Code.{sumsOf};
+ghost use Rattle.sums.specs.Code.{sumsOf};
 ghost use Rattle.format.specs.Policy.{policyFault, ruleCount, stamp as stampOf};
 ghost use Rattle.format.specs.Calls.{checkPolicy, checkTable, makeTable};
 ghost use Rattle.engine.specs.Code.{answerOf, outcome};
@@ -12,11 +12,11 @@ use format::answer::Refusal;
 use policy_check::block::good_length;
 use policy_check::policy::policy_fault;
 use policy_check::policy::rule_count;
+use sums::sum::Sum;
+use sums::sum::sum_words;
 use table_check::tables::record_count;
 use table_check::tables::table_fault;
 use table_write::write::fresh;
-use words::sum::Sum;
-use words::sum::sum_words;
 
 // Accepts a policy with the number of its rules.
 pub fn check_policy(policy: &[u8]) -> Reply

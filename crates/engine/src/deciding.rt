@@ -2,7 +2,7 @@
 ghost use mathlib.Core.Path.{_≡_};
 ghost use mathlib.Core.Option.{none};
 ghost use lib.ListN.{length};
-ghost use Rattle.words.specs.Code.{sumsOf};
+ghost use Rattle.sums.specs.Code.{sumsOf};
 ghost use Rattle.format.specs.Policy.{policyFault, ruleCount, stamp as stampOf};
 ghost use Rattle.format.specs.Request.{requestFault};
 ghost use Rattle.format.specs.Table.{tableFault, recordsOf};
@@ -17,12 +17,12 @@ use format::answer::Refusal;
 use policy_check::policy::policy_fault;
 use policy_check::policy::rule_count;
 use request_check::request::request_fault;
+use sums::sum::Sum;
 use table_check::tables::record_count;
 use table_check::tables::table_fault;
 use update::grant::Updated;
 use update::grant::update;
 use verdict::verdicts::verdict_of;
-use words::sum::Sum;
 
 // Decides one request.
 pub fn decide(policy: &[u8], table: &mut [u8], request: &[u8]) -> Reply

@@ -3,7 +3,7 @@ ghost use mathlib.Core.Path.{_≡_};
 ghost use mathlib.Core.Option.{none};
 ghost use Prim.Native.Nat.{_+_, _*_, _<_, _≤_};
 ghost use lib.ListN.{length};
-ghost use Rattle.words.specs.Code.{sumsOf};
+ghost use Rattle.sums.specs.Code.{sumsOf};
 ghost use Rattle.words.specs.First.{first};
 ghost use Rattle.format.specs.Block.{blocks};
 ghost use Rattle.format.specs.Policy.{Policy, policyFault, ruleCount, stamp as stampOf};
@@ -17,10 +17,10 @@ use format::answer::Fault;
 use format::answer::Refusal;
 use policy_check::block::good_check;
 use policy_check::block::good_length;
+use sums::sum::Sum;
 use words::field::u16_at;
 use words::field::u32_at;
 use words::field::zero_from;
-use words::sum::Sum;
 
 // Kind, number, total and count of block k of n. Records may stand in it only if no block before it is short of one.
 fn good_heading(b: &[u8], k: u32, n: u32, short: bool) -> bool

@@ -6,16 +6,16 @@ ghost use Prim.Native.Nat.{_+_, _*_, _≤_, _<_};
 ghost use lib.ListN.{length, take};
 ghost use Rattle.words.specs.Lists.{tab};
 ghost use Rattle.words.specs.Bytes.{zeros, part, bytes4};
-ghost use Rattle.words.specs.Code.{sumsOf};
+ghost use Rattle.sums.specs.Code.{sumsOf};
 ghost use Rattle.format.specs.Block.{blocks, block as blockAt, goodLength, sumBytes, sealed};
 ghost use Rattle.format.specs.Table.{recordAt, blockImage, tableImage};
 ghost use Rattle.format.specs.Place.{recordPlace, recordsHere};
 ghost use Rattle.table_write.specs.Writing.{over, numbersImage, headerImage, countIn, ImageOutside};
+use sums::sum::Sum;
+use sums::sum::sum_words;
 use words::field::put_u16;
 use words::field::put_u32;
 use words::field::u32_at;
-use words::sum::Sum;
-use words::sum::sum_words;
 
 // ---- one block
 

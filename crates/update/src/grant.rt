@@ -5,7 +5,7 @@ ghost use Prim.Native.Nat.{ℕ, _+_, _-_, _≤_};
 ghost use mathlib.Core.List.{List};
 ghost use mathlib.Core.Option.{none};
 ghost use lib.Dec.{eqb};
-ghost use Rattle.words.specs.Code.{sumsOf};
+ghost use Rattle.sums.specs.Code.{sumsOf};
 ghost use Rattle.format.specs.Answer.{grant, Outcome};
 ghost use Rattle.format.specs.Policy.{policyFault, policyOf, ruleCount};
 ghost use Rattle.places.specs.Masks.{EachOf};
@@ -17,7 +17,7 @@ use clearing::clearing::ending;
 use clearing::room::has_room;
 use places::masks::Each;
 use places::masks::each_of;
-use words::sum::Sum;
+use sums::sum::Sum;
 
 // A grant's numbers: 1 if the request is recorded, the records gone, the records held.
 pub struct Grant {

@@ -5,7 +5,7 @@ ghost use mathlib.Core.List.{_++_};
 ghost use Prim.Native.Nat.{_+_, _*_, _/_, _<_, _≤_, max};
 ghost use lib.ListN.{length};
 ghost use Rattle.words.specs.Bytes.{bytes4};
-ghost use Rattle.words.specs.Code.{sumsOf};
+ghost use Rattle.sums.specs.Code.{sumsOf};
 ghost use Rattle.format.specs.Block.{blocks};
 ghost use Rattle.format.specs.Table.{tableImage};
 ghost use Rattle.format.specs.Place.{recordPlace, recordHere, recordsHere};
@@ -15,12 +15,12 @@ ghost use Rattle.clearing.specs.Holding.{Holds, AllMarked};
 ghost use Rattle.update.specs.Compacted.{keepsAll, Settled, Compacted};
 use clearing::clearing::cleared_marks;
 use places::masks::Each;
+use sums::sum::Sum;
 use table_write::write::move_record;
 use table_write::write::put_record;
 use table_write::write::record_place;
 use table_write::write::seal_blocks;
 use words::field::u32_at;
-use words::sum::Sum;
 
 // ---- the records
 

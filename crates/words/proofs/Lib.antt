@@ -11,7 +11,6 @@ pub mod Bytes
 pub mod Parts
 pub mod Zeros
 pub mod Bits
-pub mod Fours
 pub mod BitLaws
 pub mod Lowest
 pub mod Sums

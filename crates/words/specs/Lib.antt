@@ -2,4 +2,3 @@ pub mod Lists
 pub mod First
 pub mod Bytes
 pub mod Sums
-pub mod Code

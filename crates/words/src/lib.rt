@@ -1,3 +1,2 @@
-// Bytes, 32-bit words and the check sum.
+// Bytes and the numbers in them.
 pub mod field;
-pub mod sum;

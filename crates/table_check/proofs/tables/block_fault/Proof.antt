@@ -4,7 +4,7 @@ use mathlib.Core.Path.{_≡_, sym, _∙_}
 use mathlib.Core.Bool.{true}
 use borrow.Author.Tests.{not-true, not-false}
 use borrow.Author.Needs.{needs}
-use Rattle.words.specs.Code.{sumsOf}
+use Rattle.sums.specs.Code.{sumsOf}
 use Rattle.format.specs.Block.{goodCheck}
 use Rattle.format.specs.Table.{goodStamp}
 use Rattle.table_check.specs.CheckParts.{goodTableHead}

@@ -7,7 +7,7 @@ use lib.ListN.{length-take, length-drop}
 use borrow.Author.Needs.{needs}
 use Rattle.words.specs.Lists.{anyBelow}
 use Rattle.words.specs.First.{first}
-use Rattle.words.specs.Code.{sumsOf}
+use Rattle.sums.specs.Code.{sumsOf}
 use Rattle.words.proofs.Parts.{part-to}
 use Rattle.words.proofs.First.{first-start, first-hit, first-more, first-done}
 use Rattle.format.specs.Block.{block, blocks}

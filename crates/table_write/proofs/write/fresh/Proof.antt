@@ -2,7 +2,7 @@
 -- Assumes nothing.
 use native.Mathlib.Omega.{arith}
 use Rattle.words.specs.Lists.{tab}
-use Rattle.words.specs.Code.{sumsOf}
+use Rattle.sums.specs.Code.{sumsOf}
 use Rattle.format.specs.Place.{recordsHere}
 use Rattle.format.proofs.Accepted.{blocked}
 use Rattle.table_write.proofs.TableWritten.{nothing-outside}

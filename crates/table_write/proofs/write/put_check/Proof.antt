@@ -2,7 +2,7 @@
 -- Assumes nothing.
 use borrow.Author.Needs.{needs}
 use native.Mathlib.Omega.{arith}
-use Rattle.words.specs.Code.{sumsOf}
+use Rattle.sums.specs.Code.{sumsOf}
 use Rattle.table_write.proofs.Sealing.{check-put}
 use Rattle.table_write.proofs.write.put_check.Statement.{statement}
 use Rattle.table_write.proofs.write.put_check.Tie as tie

@@ -4,7 +4,7 @@ use mathlib.Core.Path.{refl}
 use mathlib.Core.List.{_++_}
 use native.Mathlib.Omega.{arith}
 use Rattle.words.specs.Bytes.{zeros}
-use Rattle.words.specs.Code.{sumsOf}
+use Rattle.sums.specs.Code.{sumsOf}
 use Rattle.format.specs.Block.{sumBytes}
 use Rattle.table_write.specs.Writing.{numbersImage}
 use Rattle.table_write.proofs.Over.{joined}

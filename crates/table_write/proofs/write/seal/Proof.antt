@@ -1,7 +1,7 @@
 -- `crate::write::seal` meets its contract.
 -- Assumes nothing.
 use native.Mathlib.Omega.{arith}
-use Rattle.words.specs.Code.{sumsOf}
+use Rattle.sums.specs.Code.{sumsOf}
 use Rattle.table_write.proofs.SliceBytes.{slice-bytes}
 use Rattle.table_write.proofs.Sealing.{block-made}
 use borrow.Author.Needs.{needs}

@@ -5,7 +5,7 @@ use mathlib.Core.Path.{_≡_, ap, _∙_}
 use native.Mathlib.Omega.{arith}
 use Rattle.words.specs.Lists.{tab}
 use Rattle.words.specs.Bytes.{part}
-use Rattle.words.specs.Code.{sumsOf}
+use Rattle.sums.specs.Code.{sumsOf}
 use Rattle.format.specs.Table.{recordAt, blockImage}
 use Rattle.table_write.proofs.Over.{part-back}
 use borrow.Author.Needs.{needs}

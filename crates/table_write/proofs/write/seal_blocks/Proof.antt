@@ -4,7 +4,7 @@ use Prim.Native.Nat.{_-_, _*_, _≤_}
 use mathlib.Core.Path.{_≡_, ap, _∙_}
 use native.Mathlib.Omega.{arith}
 use Rattle.words.specs.Lists.{tab}
-use Rattle.words.specs.Code.{sumsOf}
+use Rattle.sums.specs.Code.{sumsOf}
 use Rattle.format.specs.Block.{blocks, block}
 use Rattle.format.specs.Table.{recordAt, blockImage}
 use Rattle.table_write.specs.Writing.{over}

@@ -1,7 +1,7 @@
 -- `crate::grant::update` meets its contract.
 -- Assumes nothing.
 use native.Mathlib.Omega.{arith}
-use Rattle.words.specs.Code.{sumsOf}
+use Rattle.sums.specs.Code.{sumsOf}
 use Rattle.table_write.proofs.SliceBytes.{slice-bytes}
 use Rattle.update.proofs.Standing.{Standing, standing}
 use Rattle.update.proofs.Updates.{ends-few, held-few, no-room, room-fits, granted-is}

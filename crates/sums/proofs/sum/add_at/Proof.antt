@@ -1,12 +1,12 @@
--- `words::sum::add_at` meets its contract.
+-- `sums::sum::add_at` meets its contract.
 -- Assumes nothing.
 use borrow.Author.Needs.{needs}
-use Rattle.words.proofs.sum.add_at.Statement.{statement}
-use Rattle.words.proofs.sum.add_at.Tie as tie
-use Rattle.words.proofs.sum.add_at.Reads as reads
-use Rattle.words.proofs.sum.add_at.Lts as lts
+use Rattle.sums.proofs.sum.add_at.Statement.{statement}
+use Rattle.sums.proofs.sum.add_at.Tie as tie
+use Rattle.sums.proofs.sum.add_at.Reads as reads
+use Rattle.sums.proofs.sum.add_at.Lts as lts
 use Rattle.words.proofs.field.u32_at.Reads as u32-at-reads
-use Rattle.words.proofs.sum.Sum.add.Reads as add-reads
+use Rattle.sums.proofs.sum.Sum.add.Reads as add-reads
 
 -- src/sum.rt:43:13
 u32-at-requires : tie.Need-u32-at-requires

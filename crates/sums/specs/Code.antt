@@ -2,10 +2,10 @@
 -- Assumes nothing.
 use Prim.Native.Nat.{ℕ, zero, suc, _+_, _*_, _-_, _%_}
 use mathlib.Core.List.{List}
 use Rattle.words.specs.Bytes.{u32At}
 use Rattle.words.specs.Sums.{Sums, wrap, addWord}
-use Rattle.words.specs.declared.sum.Sum.{Sum}
-use Rattle.words.specs.declared.sum.Four.{Four}
+use Rattle.sums.specs.declared.sum.Sum.{Sum}
+use Rattle.sums.specs.declared.sum.Four.{Four}
 
 -- the state of the two sums
 abbrev pub sumsOf : Sum → Sums

@@ -8,10 +8,10 @@ use native.Mathlib.Numerals.{add-one, add-two, add-three, add-four}
 use native.Mathlib.Omega.{arith}
 use mathlib.Core.List.{List}
 use lib.ListN.{length}
 use Rattle.words.specs.Bytes.{u32At, part}
 use Rattle.words.specs.Sums.{Sums, wrap, addWord, addWords, sums, words}
-use Rattle.words.specs.Code.{wordFrom, Fours, addFour, fours, together}
+use Rattle.sums.specs.Code.{wordFrom, Fours, addFour, fours, together}
 use Rattle.words.proofs.Sums.{sums-more}
 
 -- ---- sums that never wrap
 

@@ -1,9 +1,9 @@
--- `words::sum::Sum::add` meets its contract.
+-- `sums::sum::Sum::add` meets its contract.
 -- Assumes nothing.
 use borrow.Author.Needs.{needs}
 use Rattle.words.specs.Sums.{addWord}
-use Rattle.words.proofs.sum.Sum.add.Statement.{statement}
-use Rattle.words.proofs.sum.Sum.add.Tie as tie
+use Rattle.sums.proofs.sum.Sum.add.Statement.{statement}
+use Rattle.sums.proofs.sum.Sum.add.Tie as tie
 
 wrapping-add-u32-requires : tie.Need-wrapping-add-u32-requires
 wrapping-add-u32-requires c κs = search needs

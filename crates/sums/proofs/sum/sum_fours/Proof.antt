@@ -1,17 +1,17 @@
--- `words::sum::sum_fours` meets its contract: the states are those after the words passed.
+-- `sums::sum::sum_fours` meets its contract: the states are those after the words passed.
 -- Assumes nothing.
 use Prim.Native.Nat.{_-_, _≤_}
 use mathlib.Core.Path.{_≡_, refl}
 use native.Mathlib.Numerals.{add-one}
 use native.Mathlib.Omega.{arith}
 use borrow.Author.Needs.{needs}
-use Rattle.words.specs.Code.{sumsOf, Fours, fours, addFour, wordFrom}
-use Rattle.words.proofs.Fours.{fours-more}
-use Rattle.words.proofs.sum.sum_fours.Statement.{statement}
-use Rattle.words.proofs.sum.sum_fours.Tie as tie
-use Rattle.words.proofs.sum.sum_fours.Reads as reads
-use Rattle.words.proofs.sum.sum_fours.Lts as lts
-use Rattle.words.proofs.sum.add_at.Reads as add-at-reads
+use Rattle.sums.specs.Code.{sumsOf, Fours, fours, addFour, wordFrom}
+use Rattle.sums.proofs.Fours.{fours-more}
+use Rattle.sums.proofs.sum.sum_fours.Statement.{statement}
+use Rattle.sums.proofs.sum.sum_fours.Tie as tie
+use Rattle.sums.proofs.sum.sum_fours.Reads as reads
+use Rattle.sums.proofs.sum.sum_fours.Lts as lts
+use Rattle.sums.proofs.sum.add_at.Reads as add-at-reads
 
 abbrev Inv-loop : tie.InvT-loop
 Inv-loop s at n w₀ x₀ y₀ z₀ i₀ w x y z i =

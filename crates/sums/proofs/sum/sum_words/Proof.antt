@@ -1,23 +1,23 @@
--- `words::sum::sum_words` meets its contract: the sums are those of the words passed.
+-- `sums::sum::sum_words` meets its contract: the sums are those of the words passed.
 -- Assumes nothing.
 use Prim.Native.Nat.{_-_, _*_, _/_, _≤_}
 use mathlib.Core.Path.{_≡_, _∙_}
 use native.Mathlib.Numerals.{add-one}
 use native.Mathlib.Omega.{arith}
 use borrow.Author.Needs.{needs}
 use Rattle.words.specs.Bytes.{part}
 use Rattle.words.specs.Sums.{sums, words}
-use Rattle.words.specs.Code.{sumsOf}
+use Rattle.sums.specs.Code.{sumsOf}
 use Rattle.words.proofs.Sums.{sums-more}
-use Rattle.words.proofs.Fours.{fours-sums}
-use Rattle.words.proofs.sum.sum_words.Statement.{statement}
-use Rattle.words.proofs.sum.sum_words.Tie as tie
-use Rattle.words.proofs.sum.sum_words.Reads as reads
-use Rattle.words.proofs.sum.sum_words.Lts as lts
+use Rattle.sums.proofs.Fours.{fours-sums}
+use Rattle.sums.proofs.sum.sum_words.Statement.{statement}
+use Rattle.sums.proofs.sum.sum_words.Tie as tie
+use Rattle.sums.proofs.sum.sum_words.Reads as reads
+use Rattle.sums.proofs.sum.sum_words.Lts as lts
 use Rattle.words.proofs.field.u32_at.Reads as u32-at-reads
-use Rattle.words.proofs.sum.Sum.add.Reads as add-reads
-use Rattle.words.proofs.sum.sum_fours.Reads as sum-fours-reads
-use Rattle.words.proofs.sum.together.Reads as together-reads
+use Rattle.sums.proofs.sum.Sum.add.Reads as add-reads
+use Rattle.sums.proofs.sum.sum_fours.Reads as sum-fours-reads
+use Rattle.sums.proofs.sum.together.Reads as together-reads
 
 abbrev Inv-loop : tie.InvT-loop
 Inv-loop s at n k sum₀ i₀ sum i = (i ≤ n) × (sumsOf sum ≡ sums (words (part s at (4 * i))))

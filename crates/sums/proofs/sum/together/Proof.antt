@@ -1,14 +1,14 @@
--- `words::sum::together` meets its contract.
+-- `sums::sum::together` meets its contract.
 -- Assumes nothing.
 use borrow.Author.Needs.{needs}
-use Rattle.words.specs.Code.{together}
-use Rattle.words.proofs.sum.together.Statement.{statement}
-use Rattle.words.proofs.sum.together.Tie as tie
-use Rattle.words.proofs.sum.together.Reads as reads
-use Rattle.words.proofs.sum.together.Lts as lts
-use Rattle.words.proofs.sum.behind.Reads as behind-reads
-use Rattle.words.proofs.sum.total.Reads as total-reads
-use Rattle.words.proofs.sum.wrapped.Reads as wrapped-reads
+use Rattle.sums.specs.Code.{together}
+use Rattle.sums.proofs.sum.together.Statement.{statement}
+use Rattle.sums.proofs.sum.together.Tie as tie
+use Rattle.sums.proofs.sum.together.Reads as reads
+use Rattle.sums.proofs.sum.together.Lts as lts
+use Rattle.sums.proofs.sum.behind.Reads as behind-reads
+use Rattle.sums.proofs.sum.total.Reads as total-reads
+use Rattle.sums.proofs.sum.wrapped.Reads as wrapped-reads
 
 -- src/sum.rt:94:9
 total-requires : tie.Need-total-requires

@@ -2,11 +2,11 @@
 ghost use mathlib.Core.Path.{_≡_};
 ghost use Prim.Native.Nat.{_+_, _*_, _<_, _≤_};
 ghost use lib.ListN.{length};
 ghost use Rattle.words.specs.Bytes.{u32At, part};
 ghost use Rattle.words.specs.Sums.{sums, words, addWord, wrap};
-ghost use Rattle.words.specs.Code.{sumsOf, wordFrom, fourOf, fours, together as togetherOf};
-use crate::field::u32_at;
+ghost use Rattle.sums.specs.Code.{sumsOf, wordFrom, fourOf, fours, together as togetherOf};
 use std::num::wrapping_add_u32;
+use words::field::u32_at;
 
 // The state of the two sums.
 pub struct Sum {
