@@ -25,10 +25,13 @@ use std::time::Instant;
 
 fn main() {
     let typical = Typical::new();
-    let worst = Worst::new();
+    let worst = Worst::new("worst", |_| 0x7F);
+    // The engine counts records that are alike together: here no two are.
+    let unlike = Worst::new("unlike", |i| 0x7F | (i as u32) << 16);
     println!("Median time of one call in microseconds; the last three columns are ratios.\n");
     heading();
-    for workload in typical.workloads().iter().chain(&worst.workloads()) {
+    let workloads = [typical.workloads(), worst.workloads(), unlike.workloads()];
+    for workload in workloads.iter().flatten() {
         row(workload);
     }
     println!("\nGrowth: a refusal by 33 on a full table, by its blocks.\n");
@@ -444,6 +447,7 @@ impl Typical {
 /// 32 rules of 8 exclusions of 8, 32 blocks of 61 permissions, and 1920 records of one user, each in
 /// another context and marked for every rule.
 struct Worst {
+    name: &'static str,
     policy: Vec<u8>,
     table: Vec<u8>,
 }
@@ -452,7 +456,8 @@ struct Worst {
 const DONE: u16 = 56;
 
 impl Worst {
-    fn new() -> Worst {
+    /// With the active roles of each record by its index.
+    fn new(name: &'static str, roles_of: impl Fn(usize) -> u32) -> Worst {
         let exclusion = |x: u16| {
             if x.is_multiple_of(2) {
                 let mut listed: Vec<u16> = (1..=7).map(|i| 7 * x + i).collect();
@@ -488,7 +493,7 @@ impl Worst {
             .map(|i| Record {
                 request: Request {
                     user: 7,
-                    roles: 0x7F,
+                    roles: roles_of(i),
                     privilege: privilege(1 + i as u16 % DONE),
                     context: Worst::context(&mut chance),
                 },
@@ -496,7 +501,11 @@ impl Worst {
             })
             .collect();
         let table = write_table(sums(&policy), &records, 128);
-        Worst { policy, table }
+        Worst {
+            name,
+            policy,
+            table,
+        }
     }
 
     fn context(chance: &mut Chance) -> Context {
@@ -508,7 +517,7 @@ impl Worst {
     fn workloads(&self) -> Vec<Workload> {
         let context = Worst::context(&mut Chance::new(8));
         let workload = |name: &str, call, operation, expected| Workload {
-            name: name.to_string(),
+            name: format!("{}: {name}", self.name),
             call,
             policy: self.policy.clone(),
             table: self.table.clone(),
@@ -518,32 +527,32 @@ impl Worst {
         let (all, none) = (places(128), Reply::refuse(31, 0, 0));
         vec![
             workload(
-                "worst: refused by 33 at the very last",
+                "refused by 33 at the very last",
                 Call::Decide,
                 3_000,
                 Reply::refuse(33, 32, 8),
             ),
             workload(
-                "worst: refused by 34",
+                "refused by 34",
                 Call::Decide,
                 4_000,
                 Reply::refuse(34, 0, 0),
             ),
             workload(
-                "worst: last step of all, all removed",
+                "last step of all, all removed",
                 Call::Decide,
                 2_000,
                 Reply::grant(0, all, 0),
             ),
-            workload("worst: refused by 31", Call::Decide, 5_000, none),
+            workload("refused by 31", Call::Decide, 5_000, none),
             workload(
-                "worst: check of the policy, 64 blocks",
+                "check of the policy, 64 blocks",
                 Call::CheckPolicy,
                 1,
                 Reply::accept(32),
             ),
             workload(
-                "worst: check of the table",
+                "check of the table",
                 Call::CheckTable,
                 1,
                 Reply::accept(all),
