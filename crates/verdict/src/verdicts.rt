@@ -122,7 +122,7 @@ fn judged(
     }
 }
 
-// The same with room for the groups and hints: a table of few records does not pay for many.
+// The same with room for the groups of at most 60 records, and for the hints: a table of few records does not pay for many.
 fn judged_few(policy: &[u8], rules: u32, fitting: u32, q: &[u8], table: &[u8], n: usize) -> Verdict
     requires { ⌜ (policyFault (now policy) ≡ none) × (rules ≡ ruleCount (now policy)) × (fitting ≡ fittingIn (policyOf (now policy)) (now q)) ⌝ }
     requires { ⌜ (length (now q) ≡ 28) × (n ≤ 60) × (permittedBy (policyOf (now policy)) (now q) ≡ true) ⌝ }
@@ -143,6 +143,7 @@ fn judged_few(policy: &[u8], rules: u32, fitting: u32, q: &[u8], table: &[u8], n
     )
 }
 
+// The same with room for the groups of as many records as the largest table has.
 fn judged_many(policy: &[u8], rules: u32, fitting: u32, q: &[u8], table: &[u8], n: usize) -> Verdict
     requires { ⌜ (policyFault (now policy) ≡ none) × (rules ≡ ruleCount (now policy)) × (fitting ≡ fittingIn (policyOf (now policy)) (now q)) ⌝ }
     requires { ⌜ (length (now q) ≡ 28) × (permittedBy (policyOf (now policy)) (now q) ≡ true) ⌝ }
