@@ -1,15 +1,17 @@
 // Whether the new table has room: how many records keep a mark is counted only where the table is full.
 ghost use mathlib.Core.Path.{_≡_};
 ghost use mathlib.Core.List.{[], _∷_};
-ghost use Prim.Native.Nat.{_*_, _<_, _≤_};
+ghost use Prim.Native.Nat.{_<_, _≤_};
 ghost use lib.ListN.{length};
 ghost use lib.Dec.{leb};
+ghost use Rattle.format.specs.Layout.{capacity};
 ghost use Rattle.format.specs.Block.{blocks};
 ghost use Rattle.format.specs.Place.{recordHere, recordsHere};
 ghost use Rattle.clearing.specs.Cleared.{leftBy, afterBy};
 ghost use Rattle.clearing.specs.Holding.{Holds, AllMarked};
 use crate::clearing::cleared_marks;
 use places::masks::Each;
+use table_write::blocks::Blocks;
 use table_write::write::record_place;
 
 // 1 if record i keeps a mark, and else 0.
@@ -42,9 +44,9 @@ pub fn has_room(each: Each, q: &[u8], table: &[u8], n: usize, ends: u32, gives: 
     requires { ⌜ length (now q) ≡ 28 ⌝ }
     requires { ⌜ Holds (now table) n ⌝ }
     requires { ⌜ AllMarked (now table) n ⌝ }
-    ensures { λ r. ⌜ r ≡ leb (length (afterBy each (now (q .entry)) ends gives (recordsHere (now (table .entry)) n))) (15 * blocks (now (table .entry))) ⌝ }
+    ensures { λ r. ⌜ r ≡ leb (length (afterBy each (now (q .entry)) ends gives (recordsHere (now (table .entry)) n))) (capacity (blocks (now (table .entry)))) ⌝ }
 {
-    let places = 15 * (table.len() / 512);
+    let places = Blocks(table.len() / 512).capacity();
     if gives == 0 {
         return true;
     }

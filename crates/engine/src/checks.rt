@@ -5,7 +5,6 @@ ghost use Rattle.sums.specs.Code.{sumsOf};
 ghost use Rattle.format.specs.Policy.{policyFault, ruleCount, stamp as stampOf};
 ghost use Rattle.format.specs.Calls.{checkPolicy, checkTable, makeTable};
 ghost use Rattle.engine.specs.Code.{answerOf, outcome};
-use crate::blocks::Blocks;
 use crate::reply::Reply;
 use format::answer::Fault;
 use format::answer::Refusal;
@@ -16,6 +15,7 @@ use sums::sum::Sum;
 use sums::sum::sum_words;
 use table_check::tables::record_count;
 use table_check::tables::table_fault;
+use table_write::blocks::Blocks;
 use table_write::write::fresh;
 
 // Accepts a policy with the number of its rules.

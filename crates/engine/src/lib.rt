@@ -1,6 +1,5 @@
 // The four entry points of the engine: check a policy, check a table under a policy, make a fresh table in a lent buffer, decide. Each takes lent bytes
 // of any length and content, requires nothing, and promises by an equation its answer and every lent byte afterwards.
-pub mod blocks;
 pub mod checks;
 pub mod deciding;
 pub mod reply;

@@ -1,6 +1,6 @@
 -- Steps 4 and 5 as the code takes them: the bits that it makes of the judging rules, the table that it leaves, and its answer.
 -- Assumes nothing.
-use Prim.Native.Nat.{ℕ, _+_, _-_, _*_, _^_, _≤_, _<_}
+use Prim.Native.Nat.{ℕ, _+_, _-_, _^_, _≤_, _<_}
 use native.Mathlib.Omega.{arith}
 use mathlib.Core.Path.{_≡_, refl, sym, ap, ap₂, _∙_}
 use mathlib.Core.Bool.{Bool, true, false, cond, not}
@@ -107,14 +107,14 @@ module _ {policy : List ℕ} {rules : ℕ} {q : List ℕ} {t : Sums} {s : List �
     pub held-few : {held : ℕ} → held ≡ length (afterBy e q ends (judging - ends) (recordsHere s n)) → held ≤ n + cond (eqb (judging - ends) 0) 0 1
     held-few is = omega (arith, after-few e q ends (judging - ends) (recordsHere s n), length-here s n)
 
-    module _ {r : Bool} (room : r ≡ leb (length (afterBy e q ends (judging - ends) (recordsHere s n))) (15 * blocks s)) where
+    module _ {r : Bool} (room : r ≡ leb (length (afterBy e q ends (judging - ends) (recordsHere s n))) (capacity (blocks s))) where
       room-is : r ≡ leb (length (tableAfter (policyOf policy) (recordsOf s) q)) (capacity (blocks s))
-      room-is = room ∙ ap (λ rs. leb (length rs) (15 * blocks s)) after-is
+      room-is = room ∙ ap (λ rs. leb (length rs) (capacity (blocks s))) after-is
 
       pub no-room : not r ≡ true → _≡_ {A = Outcome (List ℕ)} (record { answer = refuse (refusal 34 0 0); state = s }) (updateOf policy s q)
       no-room is = full policy s q (sym room-is ∙ not-true r is)
 
-      pub room-fits : not r ≡ false → length (afterBy e q ends (judging - ends) (recordsHere s n)) ≤ 15 * blocks s
+      pub room-fits : not r ≡ false → length (afterBy e q ends (judging - ends) (recordsHere s n)) ≤ capacity (blocks s)
       room-fits is = leb-true _ _ (sym room ∙ not-false r is)
 
       pub granted-is :
