@@ -8,7 +8,7 @@ use native.Mathlib.Decide.{decLe}
 use native.Mathlib.Numerals.{add-one}
 use lib.ListN.{length, getD, take, drop, length-append, length-take, length-drop, drop-of-length-le}
 use lib.Seq.{sets, sets-eq, take-at, take-all, drop-cons, drop-drop}
-use Rattle.format.specs.Answer.{Answer, accept, grant, refuse, Outcome}
+use Rattle.format.specs.Answer.{Answer, Outcome}
 use Rattle.register.specs.Demand3.{answers}
 use Rattle.register.specs.Consequences.{after}
 use Rattle.engine.specs.Code.{answerOf}
@@ -37,9 +37,7 @@ module _ (requests : List ℕ) (at n end : ℕ) (inside : at ≤ length requests
 
 four-long : (a : Answer) → length (fourNumbers a) ≡ 4
 unfolding fourNumbers
-four-long (accept n) = refl
-four-long (grant recorded removed held) = refl
-four-long (refuse r) = refl
+four-long a = refl
 
 written-one : (a : Answer) (l : List Answer) → written (a ∷ l) ≡ fourNumbers a ++ written l
 unfolding written flatten

@@ -5,7 +5,7 @@ use Prim.Native.Nat.{ℕ}
 use mathlib.Core.Path.{_≡_}
 use mathlib.Core.List.{List, [], _∷_, map, flatten}
 use lib.ListN.{take, drop}
-use Rattle.format.specs.Answer.{Answer, accept, grant, refuse, Refusal}
+use Rattle.format.specs.Answer.{Answer, accept, refuse, Refusal}
 use Rattle.format.specs.Layout.{capacity}
 use Rattle.format.specs.Block.{blocks}
 use Rattle.format.specs.Calls.{makeTable}
@@ -14,6 +14,7 @@ use Rattle.register.specs.Register.{registerStep}
 use Rattle.register.specs.Image.{registerImage}
 use Rattle.register.specs.Demand3.{answers, NobodyEver}
 use Rattle.register.specs.Consequences.{after}
+use Rattle.engine.specs.Numbers.{four}
 
 -- The requests, "whatever the bytes and length of each": bytes cut one after another into pieces of these lengths. Where the bytes end early, a piece
 -- is what is left of them.
@@ -21,12 +22,9 @@ unfoldable pub cut : List ℕ → List ℕ → List (List ℕ)
 cut bytes [] = []
 cut bytes (n ∷ ns) = take n bytes ∷ cut (drop n bytes) ns
 
--- An answer in four numbers, as a caller of another language gets it: "number is 0 for acceptance and grant". Acceptance with its number; a grant with
--- recorded, removed, held; a refusal with its number and two places.
+-- an answer's four numbers, one after another
 unfoldable pub fourNumbers : Answer → List ℕ
-fourNumbers (accept n) = 0 ∷ n ∷ 0 ∷ 0 ∷ []
-fourNumbers (grant recorded removed held) = 0 ∷ recorded ∷ removed ∷ held ∷ []
-fourNumbers (refuse r) = r .number ∷ r .first ∷ r .second ∷ 0 ∷ []
+fourNumbers a = four a .number ∷ four a .first ∷ four a .second ∷ four a .third ∷ []
 
 -- the answers one after another, four numbers each
 unfoldable pub written : List Answer → List ℕ

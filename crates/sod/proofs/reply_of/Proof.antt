@@ -2,7 +2,7 @@
 -- Assumes nothing.
 use mathlib.Core.Path.{sym, ap}
 use Rattle.engine.specs.Code.{answerOf}
-use Rattle.sod.specs.Code.{four}
+use Rattle.engine.specs.Numbers.{four}
 use borrow.Author.Needs.{needs}
 use Rattle.sod.proofs.reply_of.Statement.{statement}
 use Rattle.sod.proofs.reply_of.Tie as tie
