@@ -11,12 +11,12 @@ ghost use Rattle.judge.specs.Verdict.{isFirst, isLast};
 use crate::request;
 use exclusion_check::privilege;
 
-// The step whose mark and whose privilege stand at two places of a rule's block is set, and the request does it.
-fn does_step(b: &[u8], mark: usize, at: usize, q: &[u8]) -> bool
-    requires { ⌜ (length (now b) ≡ 512) × (length (now q) ≡ 28) × (mark < 512) × (at + 4 ≤ 512) ⌝ }
-    ensures { λ r. ⌜ r ≡ eqb (byteAt (now (b .entry)) mark) 1 && does (privilegeAt (now (b .entry)) at) (now (q .entry)) ⌝ }
+// The step whose flag and whose privilege stand at two places of a rule's block is set, and the request does it.
+fn does_step(b: &[u8], flag: usize, at: usize, q: &[u8]) -> bool
+    requires { ⌜ (length (now b) ≡ 512) × (length (now q) ≡ 28) × (flag < 512) × (at + 4 ≤ 512) ⌝ }
+    ensures { λ r. ⌜ r ≡ eqb (byteAt (now (b .entry)) flag) 1 && does (privilegeAt (now (b .entry)) at) (now (q .entry)) ⌝ }
 {
-    (b[mark] == 1) & (request::privilege(q, 0).0 == privilege::read(b, at).0)
+    (b[flag] == 1) & (request::privilege(q, 0).0 == privilege::read(b, at).0)
 }
 
 // The request is the rule's first step.

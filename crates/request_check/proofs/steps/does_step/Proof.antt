@@ -30,7 +30,7 @@ returns c =
     let privilege = c .before .before .before .privilege in
     let read = c .before .before .read in
     let whole = take-all 28 (a .q .now) (omega arith) in
-    ap (λ (t : Bool). eqb (byteAt (a .b .now) (a .mark)) 1 && t)
+    ap (λ (t : Bool). eqb (byteAt (a .b .now) (a .flag)) 1 && t)
     (ap₂ {C = Bool} eqb (privilege .ensures ∙ ap (λ (q : Request). doneWord q) whole) (read .ensures)
     ∙ sym (does-word (a .b .now) (a .q .now) (a .at) (λ i. shared-slice-known .given i .fits) (λ i. shared-slice-known2 .given i .fits)))
 
