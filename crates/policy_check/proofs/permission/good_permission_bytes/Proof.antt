@@ -1,5 +1,7 @@
 -- `crate::permission::good_permission_bytes` meets its contract.
 -- Assumes nothing.
+use mathlib.Core.Path.{ap₂}
+use mathlib.Core.Bool.{_&&_}
 use borrow.Author.Tests.{lt-leb, le-leb}
 use borrow.Author.Needs.{needs}
 use Rattle.format.specs.Policy.{goodPermissionBytes}
@@ -36,7 +38,7 @@ zero-from-requires-2 c κs = search needs
 
 returns-2 : tie.Need-returns-2
 unfolding goodPermissionBytes
-returns-2 c = rw (← c .before .before .before .u16-at .ensures .0, le-leb _ _ (c .before .before .if1 .left)) (cc)
+returns-2 c = rw (← c .before .before .before .u16-at .ensures .0, le-leb _ _ (c .before .before .if1 .left)) (ap₂ _&&_ (c .before .zero-from .ensures) (c .zero-from2 .ensures))
 
 pub good-permission-bytes-spec : {M : Type 1} → statement M
 good-permission-bytes-spec =
