@@ -26,7 +26,7 @@ use Rattle.table_write.proofs.SliceBytes.{slice-bytes}
 use Rattle.judge.specs.Verdict.{verdict}
 use Rattle.judge.specs.NewTable.{openIn, pastIn, tableAfter}
 use Rattle.judge.specs.Decide.{decide}
-use Rattle.groups.specs.Code.{HasRoom}
+use Rattle.history.specs.Code.{HasRoom}
 use Rattle.verdict.specs.Code.{VerdictIs, judgingIn}
 use Rattle.update.specs.Updating.{judgingOf, updateOf}
 use Rattle.engine.proofs.Decided.{by-size, granted}

@@ -1,8 +1,7 @@
 // The run places of all rules at once: rules as bits of a number, rule i + 1 at bit i.
 ghost use mathlib.Core.Path.{_≡_};
 ghost use mathlib.Core.Option.{none};
-ghost use Prim.Native.Nat.{_+_, _-_, _<_, _≤_};
-ghost use lib.Bits.{bitAnd};
+ghost use Prim.Native.Nat.{_+_, _<_, _≤_};
 ghost use lib.ListN.{length};
 ghost use Rattle.words.specs.Bytes.{part};
 ghost use Rattle.format.specs.Policy.{policyFault, policyOf, ruleCount};
@@ -74,11 +73,4 @@ pub fn apart(each: Each, q: &[u8], s: &[u8], at: usize) -> u32
         | apart_at(q, s, at, 1, each.second)
         | apart_at(q, s, at, 2, each.third)
         | apart_at(q, s, at, 3, each.fourth)
-}
-
-// The bits of x that y has not.
-pub fn without(x: u32, y: u32) -> u32
-    ensures { λ r. ⌜ r ≡ x - bitAnd x y ⌝ }
-{
-    x - (x & y)
 }

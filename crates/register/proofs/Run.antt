@@ -3,7 +3,7 @@
 -- Assumes nothing.
 use Prim.Native.Nat.{ℕ, zero, suc, _+_, _<_, _≤_}
 use mathlib.Core.Path.{_≡_, refl, sym, ap, _∙_, subst}
-use mathlib.Core.Bool.{Bool, true, false, cond, not, _&&_, _||_}
+use mathlib.Core.Bool.{Bool, true, false, cond, not, _&&_, _||_, or-false, or-true}
 use mathlib.Core.List.{List, [], _∷_, _++_, map, append-nil}
 use native.Mathlib.Omega.{arith}
 use lib.ListN.{length, length-append}
@@ -63,10 +63,6 @@ module _ {A : Type 0} (t : A → Bool) (x : A) where
   unfolding afterLatest anyOf
   latest-hit [] e = rw e
   latest-hit (y ∷ xs) e = rw (anyOf-append t xs (x ∷ []), one, e, or-true) (latest-hit xs e)
-    where
-      or-true : (b : Bool) → b || true ≡ true
-      or-true true = refl
-      or-true false = refl
 
   latest-miss : (xs : List A) → t x ≡ false → afterLatest t (xs ++ (x ∷ [])) ≡ afterLatest t xs ++ (x ∷ [])
   unfolding afterLatest anyOf
@@ -74,10 +70,6 @@ module _ {A : Type 0} (t : A → Bool) (x : A) where
   latest-miss (y ∷ xs) e =
       rw (anyOf-append t xs (x ∷ []), one, e, or-false, latest-miss xs e) (go (anyOf t xs) (t y))
     where
-      or-false : (b : Bool) → b || false ≡ b
-      or-false true = refl
-      or-false false = refl
-
       go :
           (a b : Bool)
           → cond a (afterLatest t xs ++ (x ∷ [])) (cond b (xs ++ (x ∷ [])) (y ∷ (xs ++ (x ∷ []))))

@@ -3,7 +3,7 @@
 -- Assumes nothing.
 use Prim.Native.Nat.{ℕ, zero, suc, _+_, _<_, _≤_}
 use mathlib.Core.Path.{_≡_, refl, sym, ap, _∙_, subst, fun-ext}
-use mathlib.Core.Bool.{Bool, true, false, cond, not, _&&_, _||_}
+use mathlib.Core.Bool.{Bool, true, false, cond, not, _&&_, _||_, and-false}
 use mathlib.Core.List.{List, [], _∷_, _++_, map}
 use mathlib.Core.Option.{Option, none, some}
 use native.Mathlib.Omega.{arith}
@@ -56,10 +56,6 @@ module _ (p : Policy) (l : List Request) where
       each : (x : Entry) → liesInSome p l x && standsIn p q i (recordFor p l x) ≡ stands p i l (place (p .rule i) q) x
       each x = rw (marked-for i x h) (go (lies p l i x) refl (sameList (place (p .rule i) q) (place (p .rule i) (x .request))))
         where
-          and-false : (a : Bool) → a && false ≡ false
-          and-false true = refl
-          and-false false = refl
-
           go : (a : Bool) → lies p l i x ≡ a → (b : Bool) → liesInSome p l x && (a && b) ≡ a && b
           go true e b = rw (anyBelow-at (p .rules) (λ j. lies p l j x) i h e)
           go false e b = and-false (liesInSome p l x)

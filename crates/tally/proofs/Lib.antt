@@ -1,5 +1,5 @@
-pub mod Filled
 pub mod Sums
+pub mod Binary
+pub mod Along
 pub mod Groups
-pub mod Counts
-pub mod Exclusions
+pub mod Roles

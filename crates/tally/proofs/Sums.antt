@@ -1,6 +1,6 @@
 -- Sums and tests below a number, taken one further, and those that agree.
 -- Assumes nothing.
-use Prim.Native.Nat.{ℕ, zero, suc, _+_, _<_}
+use Prim.Native.Nat.{ℕ, zero, suc, _+_, _≤_, _<_}
 use native.Mathlib.Numerals.{add-one}
 use native.Mathlib.Decide.{decLt}
 use native.Mathlib.Omega.{arith}
@@ -36,6 +36,22 @@ sum-raised j f g c (suc n) l h e = go (λ k. sum-raised j f g c n k h e) (decLt 
     go ih (no k) =
         let s : n ≡ j = omega arith in
         rw (sumBelow-same n f g (λ i m. h i (λ t. omega arith))) (rw (s, e) (omega arith))
+
+-- numbers of at most 1
+pub sum-most : (n : ℕ) (f : ℕ → ℕ) → ((i : ℕ) → f i ≤ 1) → sumBelow n f ≤ n
+unfolding sumBelow
+sum-most zero f h = omega arith
+sum-most (suc n) f h = omega (arith, sum-most n f h, h n)
+
+-- one of the numbers is no more than their sum
+pub part-among : (j : ℕ) (f : ℕ → ℕ) (n : ℕ) → j < n → f j ≤ sumBelow n f
+unfolding sumBelow
+part-among j f zero l = absurd (omega arith)
+part-among j f (suc n) l = go (part-among j f n) (decLt j n)
+  where
+    go : (j < n → f j ≤ sumBelow n f) → Dec (j < n) → f j ≤ sumBelow n f + f n
+    go ih (yes k) = omega (arith, ih k)
+    go ih (no k) = let s : n ≡ j = omega arith in rw s (omega arith)
 
 -- a search that is left at the first that passes: at a number that does, and at the next; and its end
 pub any-hit : (f : ℕ → Bool) (k n : ℕ) (x : Bool) → k < n → x ≡ f k → x ≡ true → true ≡ anyBelow n f

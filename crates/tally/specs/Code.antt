@@ -1,99 +1,89 @@
--- What the values of the code stand for: groups of records, and the tally of an exclusion over them.
+-- What the values of the code stand for: the roles and privileges of the records taken in, for all rules at once.
 -- Assumes nothing.
-use Prim.Native.Nat.{ℕ, zero, suc, _+_, _*_, _-_, _≤_, min}
-use mathlib.Core.Bool.{Bool, cond}
+use Prim.Native.Nat.{ℕ, suc, _+_, _*_, _%_, _≤_, _<_, min}
+use mathlib.Core.Path.{_≡_}
+use mathlib.Core.Bool.{Bool, true, cond, _&&_, _||_}
 use mathlib.Core.List.{List}
 use lib.ListN.{length, getD}
-use lib.Bits.{bitOr}
-use lib.Dec.{eqb, leb}
-use Rattle.words.specs.Lists.{tab, anyBelow, sumBelow}
-use Rattle.words.specs.Bytes.{u16At, u32At, bit}
-use Rattle.format.specs.Request.{Request, roles}
-use Rattle.format.specs.Rule.{exclusionAt}
-use Rattle.request_check.specs.RequestWords.{doneWord}
+use lib.Dec.{eqb}
+use Rattle.words.specs.Lists.{sumBelow}
+use Rattle.words.specs.Bytes.{bit, bits}
 
--- ---- groups of records
+-- ---- the roles
 
--- Records that step 3 counts for the same rules and that have the same active roles and the same privilege make a group, which is four numbers:
--- the rules, rule i + 1 at bit i, the roles, operation and target in one, and how many records they are.
-abbrev pub sharedOf : List ℕ → ℕ → ℕ
-sharedOf groups j = getD groups (4 * j) 0
+-- For each role there is the set of rules under which it was active, rule i + 1 at bit i. Those of the rule of index i:
+unfoldable pub rolesIn : List ℕ → ℕ → ℕ
+rolesIn active i = bits 32 (λ k. bit i (getD active k 0))
 
-abbrev pub rolesOf : List ℕ → ℕ → ℕ
-rolesOf groups j = getD groups (4 * j + 1) 0
+-- a role that is full was active under all of these rules
+pub record Full (rules full : ℕ) (active : List ℕ) : Type 0 where
+  pub known : (k i : ℕ) → bit k full ≡ true → bit i rules ≡ true → bit i (getD active k 0) ≡ true
 
+-- one record more, with these roles, counts for these rules; so all that was taken in counts for those that are there ever since
+pub record Active (rules roles ever full : ℕ) (old new : List ℕ) : Type 0 where
+  pub size : length new ≡ 32
+  pub isFull : Full ever full new
+  pub more : (k : ℕ) → k < 32 → (i : ℕ) → bit i (getD new k 0) ≡ bit i (getD old k 0) || (bit i rules && bit k roles)
+
+-- ---- the privileges
+
+-- A privilege that was done makes a group of six numbers: itself, operation and target in one; the group before it in its chain, counted from 1, or 0;
+-- and how often it was done under each rule, in binary, a digit in each of four words.
 abbrev pub doneOf : List ℕ → ℕ → ℕ
-doneOf groups j = getD groups (4 * j + 2) 0
+doneOf groups j = getD groups (6 * j) 0
 
-abbrev pub timesOf : List ℕ → ℕ → ℕ
-timesOf groups j = getD groups (4 * j + 3) 0
+abbrev pub beforeOf : List ℕ → ℕ → ℕ
+beforeOf groups j = getD groups (6 * j + 1) 0
 
--- of the first g groups: all the roles of those that count for the rule of index i
-unfoldable pub rolesIn : List ℕ → ℕ → ℕ → ℕ
-rolesIn groups i zero = 0
-rolesIn groups i (suc g) = bitOr (rolesIn groups i g) (cond (bit i (sharedOf groups g)) (rolesOf groups g) 0)
+abbrev pub digitOf : ℕ → List ℕ → ℕ → ℕ
+digitOf n groups j = getD groups (6 * j + n) 0
 
--- how often they did a privilege
+-- the number of which rule i + 1 has these digits
+unfoldable pub inWords : ℕ → ℕ → ℕ → ℕ → ℕ → ℕ
+inWords ones twos fours eights i = cond (bit i ones) 1 0 + cond (bit i twos) 2 0 + cond (bit i fours) 4 0 + cond (bit i eights) 8 0
+
+abbrev pub countOf : List ℕ → ℕ → ℕ → ℕ
+countOf groups j i = inWords (digitOf 2 groups j) (digitOf 3 groups j) (digitOf 4 groups j) (digitOf 5 groups j) i
+
+-- how often a privilege was done under the rule of index i, in the first g groups: exact below 15, and else at least 15
 unfoldable pub timesIn : List ℕ → ℕ → ℕ → ℕ → ℕ
-timesIn groups i done g = sumBelow g (λ j. cond (eqb (doneOf groups j) done) (cond (bit i (sharedOf groups j)) (timesOf groups j) 0) 0)
+timesIn groups i done g = sumBelow g (λ j. cond (eqb (doneOf groups j) done) (countOf groups j i) 0)
 
--- how many records all of them are
-unfoldable pub recordsIn : List ℕ → ℕ → ℕ
-recordsIn groups g = sumBelow g (timesOf groups)
+-- the chain that a privilege's groups are in
+abbrev pub headOf : ℕ → ℕ
+headOf done = done % 1021
 
--- the list has g groups, of no more records than a table
-pub record GroupsFit (groups : List ℕ) (g : ℕ) : Type 0 where
-  pub room : 4 * g ≤ length groups
-  pub few : recordsIn groups g ≤ 1920
+-- c points to the last group of chain h before group g, counted from 1; it is 0 if there is none
+pub record Follows (groups : List ℕ) (h c g : ℕ) : Type 0 where
+  pub most : c ≤ g
+  pub none : (m : ℕ) → c ≤ m → m < g → headOf (doneOf groups m) ≡ h → ⊥
+  pub here : (m : ℕ) → suc m ≡ c → headOf (doneOf groups m) ≡ h
 
--- ---- the tally of an exclusion
+-- g groups, each linked to the one before it in its chain; the heads point to the last ones
+pub record Chained (groups heads : List ℕ) (g : ℕ) : Type 0 where
+  pub room : 6 * g ≤ length groups
+  pub few : g < 65536
+  pub size : length heads ≡ 1024
+  pub start : (h : ℕ) → h < 1021 → Follows groups h (getD heads h 0) g
+  pub link : (j : ℕ) → j < g → Follows groups (headOf (doneOf groups j)) (beforeOf groups j) j
 
--- operation and target of member i of the exclusion e in one number, as their bytes stand
-abbrev pub memberWord : List ℕ → ℕ → ℕ → ℕ
-memberWord b e i = u32At b (60 + 36 * e + 4 * i)
+-- group j is counted once more under these rules, and all else is as it was
+pub record Raised (rules : ℕ) (old : List ℕ) (j : ℕ) (new : List ℕ) : Type 0 where
+  pub size : length new ≡ length old
+  pub same : (m : ℕ) → (6 * j + 2 ≤ m → m < 6 * j + 6 → ⊥) → getD new m 0 ≡ getD old m 0
+  pub more : (i : ℕ) → countOf new j i ≡ min 15 (countOf old j i + cond (bit i rules) 1 0)
 
-unfoldable pub membersAt : List ℕ → ℕ → List ℕ
-membersAt b e = tab (memberWord b e) 0 8
+-- group g is written, done once under these rules, and those before it are as they were
+pub record Behind (rules done before : ℕ) (old : List ℕ) (g : ℕ) (new : List ℕ) : Type 0 where
+  pub size : length new ≡ length old
+  pub same : (m : ℕ) → m < 6 * g → getD new m 0 ≡ getD old m 0
+  pub isDone : doneOf new g ≡ done
+  pub isBefore : beforeOf new g ≡ before
+  pub once : (i : ℕ) → countOf new g i ≡ cond (bit i rules) 1 0
 
--- all the active roles: those of the groups that count for the rule, and the request's
-unfoldable pub rolesTaken : List ℕ → ℕ → ℕ → Request → ℕ
-rolesTaken groups i g q = bitOr (rolesIn groups i g) (roles q)
-
--- how many of an exclusion's member roles are among all the active roles
-unfoldable pub rolesAmong : List ℕ → ℕ → ℕ → ℕ → ℕ
-rolesAmong b e n all = sumBelow n (λ i. cond (bit (u16At b (60 + 36 * e + 4 * i) - 1) all) 1 0)
-
--- the eight counts, with so many more where a member is the privilege done
-unfoldable pub addDone : List ℕ → ℕ → ℕ → List ℕ → List ℕ
-addDone members done times counts = tab (λ j. getD counts j 0 + cond (eqb done (getD members j 0)) times 0) 0 8
-
--- how often each of eight members was done: in the groups, and with the request
-unfoldable pub doneIn : List ℕ → List ℕ → ℕ → ℕ → List ℕ
-doneIn members groups i g = tab (λ j. timesIn groups i (getD members j 0) g) 0 8
-
-unfoldable pub doneTaken : List ℕ → List ℕ → ℕ → ℕ → Request → List ℕ
-doneTaken members groups i g q = addDone members (doneWord q) 1 (doneIn members groups i g)
-
--- of the first n members, how many are member i; whether an earlier one is
-unfoldable pub listedWord : List ℕ → ℕ → ℕ → ℕ
-listedWord members n i = sumBelow n (λ j. cond (eqb (getD members j 0) (getD members i 0)) 1 0)
-
-unfoldable pub repeatsWord : List ℕ → ℕ → Bool
-repeatsWord members i = anyBelow i (λ j. eqb (getD members j 0) (getD members i 0))
-
--- what member i counts, and what the first n count
-unfoldable pub memberCounts : List ℕ → ℕ → List ℕ → ℕ → ℕ
-memberCounts members n done i = cond (repeatsWord members i) 0 (min (listedWord members n i) (getD done i 0))
-
-unfoldable pub membersCount : List ℕ → ℕ → List ℕ → ℕ
-membersCount members n done = sumBelow n (memberCounts members n done)
-
--- the tally of exclusion e of the rule of index i, whose block is b, from all the active roles and from the groups and the request
-unfoldable pub tallyIn : List ℕ → ℕ → ℕ → ℕ → List ℕ → ℕ → Request → ℕ
-tallyIn b e i all groups g q =
-    cond (eqb (exclusionAt b e .kind) 1)
-    (rolesAmong b e (exclusionAt b e .n) all)
-    (membersCount (membersAt b e) (exclusionAt b e .n) (doneTaken (membersAt b e) groups i g q))
-
-unfoldable pub reachedIn : List ℕ → ℕ → ℕ → ℕ → List ℕ → ℕ → Request → Bool
-reachedIn b e i all groups g q = leb (exclusionAt b e .m) (tallyIn b e i all groups g q)
+-- one record more, of this privilege, counts for these rules
+pub record Grown (rules done : ℕ) (old : List ℕ) (g : ℕ) (new heads : List ℕ) (h : ℕ) : Type 0 where
+  pub size : length new ≡ length old
+  pub most : h ≤ g + 1
+  pub chained : Chained new heads h
+  pub times : (i d : ℕ) → min 15 (timesIn new i d h) ≡ min 15 (timesIn old i d g + cond (bit i rules && eqb done d) 1 0)

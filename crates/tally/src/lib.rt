@@ -1,2 +1,4 @@
-// Step 3 of the judge: what an exclusion counts.
+// What one user did in the run places of a request, for all rules at once.
+pub mod chains;
+pub mod counts;
 pub mod tallies;

@@ -6,6 +6,7 @@ ghost use Prim.Native.Nat.{_+_, _*_, _/_, _<_, _≤_, max};
 ghost use lib.ListN.{length};
 ghost use Rattle.words.specs.Bytes.{bytes4};
 ghost use Rattle.sums.specs.Code.{sumsOf};
+ghost use Rattle.format.specs.Layout.{capacity};
 ghost use Rattle.format.specs.Block.{blocks};
 ghost use Rattle.format.specs.Table.{tableImage};
 ghost use Rattle.format.specs.Place.{recordPlace, recordHere, recordsHere};
@@ -88,7 +89,7 @@ pub fn compact(each: Each, q: &[u8], table: &mut [u8], first: usize, n: usize, e
 // Puts the request with its marks behind n records.
 pub fn append(table: &mut [u8], n: usize, q: &[u8], marks: u32)
     requires { ⌜ (length (now table) ≡ 512 * blocks (now table)) × (blocks (now table) ≤ 128) ⌝ }
-    requires { ⌜ (n < 15 * blocks (now table)) × (length (now q) ≡ 28) ⌝ }
+    requires { ⌜ (n < capacity (blocks (now table))) × (length (now q) ≡ 28) ⌝ }
     ensures { λ r. ⌜ now (table .exit) ≡ over (now (table .entry)) (recordPlace n) 32 (now (q .entry) ++ bytes4 marks) ⌝ }
 {
     put_record(table, record_place(n), q, marks);
@@ -107,7 +108,7 @@ fn taken(n: usize, m: usize) -> usize
 // Writes the blocks around the `held` records that stand in a table of n before, from the first that changes to the last that had one.
 fn seal_changed(table: &mut [u8], stamp: Sum, first: usize, n: usize, held: usize)
     requires { ⌜ (length (now table) ≡ 512 * blocks (now table)) × (blocks (now table) ≤ 128) ⌝ }
-    requires { ⌜ (first ≤ n) × (n ≤ 15 * blocks (now table)) × (held ≤ 15 * blocks (now table)) ⌝ }
+    requires { ⌜ (first ≤ n) × (n ≤ capacity (blocks (now table))) × (held ≤ capacity (blocks (now table))) ⌝ }
     requires { ⌜ ImageOutside (sumsOf stamp) (now table) held (first / 15) ((max n held + 14) / 15) ⌝ }
     ensures { λ r. ⌜ now (table .exit) ≡ tableImage (sumsOf stamp) (blocks (now (table .entry))) (recordsHere (now (table .entry)) held) ⌝ }
 {
@@ -127,7 +128,7 @@ pub fn write_after(
     requires { ⌜ length (now q) ≡ 28 ⌝ }
     requires { ⌜ (Holds (now table) n) × (AllMarked (now table) n) ⌝ }
     requires { ⌜ now table ≡ tableImage (sumsOf stamp) (blocks (now table)) (recordsHere (now table) n) ⌝ }
-    requires { ⌜ length (afterBy each (now q) ends gives (recordsHere (now table) n)) ≤ 15 * blocks (now table) ⌝ }
+    requires { ⌜ length (afterBy each (now q) ends gives (recordsHere (now table) n)) ≤ capacity (blocks (now table)) ⌝ }
     ensures { λ r. ⌜ (now (table .exit) ≡ tableImage (sumsOf stamp) (blocks (now (table .entry))) (afterBy each (now (q .entry)) ends gives (recordsHere (now (table .entry)) n))) × (r ≡ length (afterBy each (now (q .entry)) ends gives (recordsHere (now (table .entry)) n))) ⌝ }
 {
     let first = first_changed(each, q, table, n, ends);

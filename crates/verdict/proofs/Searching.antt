@@ -14,12 +14,12 @@ use Rattle.words.proofs.Parts.{byteAt-part}
 use Rattle.words.proofs.First.{first-more}
 use Rattle.format.specs.Answer.{Refusal, refusal}
 use Rattle.format.specs.Block.{block}
-use Rattle.format.specs.Request.{Request}
 use Rattle.format.specs.Rule.{exclusionAt, goodExclusion}
 use Rattle.format.specs.Policy.{policyFault, ruleCount}
 use Rattle.format.proofs.AcceptedPolicy.{rule-inside}
 use Rattle.judge.specs.Tally.{exclusionNumber}
-use Rattle.tally.specs.Code.{rolesTaken, reachedIn}
+use Rattle.tally.specs.Code.{rolesIn}
+use Rattle.exclusion_tally.specs.Code.{reachedIn}
 use Rattle.verdict.specs.Code.{failsIn, ruleFails, maskFails, failingOf, FoundIn}
 use Rattle.verdict.specs.declared.verdicts.Failing.{Failing}
 use Rattle.verdict.specs.declared.verdicts.Failing.the-variants.{At}
@@ -29,43 +29,43 @@ use Rattle.verdict.proofs.Nested.{left, row-enter}
 
 -- ---- one rule
 
-module _ (policy : List ℕ) (mask : ℕ) (groups : List ℕ) (g : ℕ) (q : Request) (i : ℕ) where
-  pub silent : bit i mask ≡ false → maskFails policy mask groups g q i ≡ none
+module _ (policy : List ℕ) (mask : ℕ) (active groups : List ℕ) (g i : ℕ) where
+  pub silent : bit i mask ≡ false → maskFails policy mask active groups g i ≡ none
   unfolding maskFails
   silent e = rw e
 
-  heard : bit i mask ≡ true → maskFails policy mask groups g q i ≡ ruleFails (block policy i) i groups g q
+  heard : bit i mask ≡ true → maskFails policy mask active groups g i ≡ ruleFails (block policy i) i active groups g
   unfolding maskFails
   heard e = rw e
 
   rule-same :
-      (all m : ℕ) (b : List ℕ) → b ≡ block policy i → m ≡ byteAt b 9 → all ≡ rolesTaken groups i g q
-      → ruleFails (block policy i) i groups g q ≡ first (failsIn b i all groups g q) 0 m
+      (roles m : ℕ) (b : List ℕ) → b ≡ block policy i → m ≡ byteAt b 9 → roles ≡ rolesIn active i
+      → ruleFails (block policy i) i active groups g ≡ first (failsIn b i roles groups g) 0 m
   unfolding ruleFails
-  rule-same all m b f h r = rw (← f, h, r)
+  rule-same roles m b f h r = rw (← f, h, r)
 
-  module _ (n : ℕ) {t : Option Refusal} (h : first (maskFails policy mask groups g q) i (n - i) ≡ t) (l : i < n) where
+  module _ (n : ℕ) {t : Option Refusal} (h : first (maskFails policy mask active groups g) i (n - i) ≡ t) (l : i < n) where
     -- a rule that does not judge
-    pub rule-silent : bit i mask ≡ false → first (maskFails policy mask groups g q) (i + 1) (n - (i + 1)) ≡ t
-    rule-silent e = first-more (maskFails policy mask groups g q) i n h l (silent e)
+    pub rule-silent : bit i mask ≡ false → first (maskFails policy mask active groups g) (i + 1) (n - (i + 1)) ≡ t
+    rule-silent e = first-more (maskFails policy mask active groups g) i n h l (silent e)
 
     -- one that does: its exclusions are next
     pub rule-judges :
-        (all m : ℕ) (b : List ℕ) → bit i mask ≡ true → b ≡ block policy i → m ≡ byteAt b 9 → all ≡ rolesTaken groups i g q
-        → left (maskFails policy mask groups g q) (failsIn b i all groups g q) i n 0 m ≡ t
-    rule-judges all m b e f k r =
-        row-enter (maskFails policy mask groups g q) (failsIn b i all groups g q) i n m h l (heard e ∙ rule-same all m b f k r)
+        (roles m : ℕ) (b : List ℕ) → bit i mask ≡ true → b ≡ block policy i → m ≡ byteAt b 9 → roles ≡ rolesIn active i
+        → left (maskFails policy mask active groups g) (failsIn b i roles groups g) i n 0 m ≡ t
+    rule-judges roles m b e f k r =
+        row-enter (maskFails policy mask active groups g) (failsIn b i roles groups g) i n m h l (heard e ∙ rule-same roles m b f k r)
 
 -- ---- one exclusion
 
-module _ (policy b : List ℕ) (i e all : ℕ) (groups : List ℕ) (g : ℕ) (q : Request) (x : Bool) (same : x ≡ reachedIn b e i all groups g q) where
+module _ (policy b : List ℕ) (i e roles : ℕ) (groups : List ℕ) (g : ℕ) (x : Bool) (same : x ≡ reachedIn b e i roles groups g) where
   pub exclusion-fails :
       x ≡ true → b ≡ block policy i
-      → failsIn b i all groups g q e ≡ some (refusal (exclusionNumber (exclusionAt (block policy i) e)) (i + 1) (e + 1))
+      → failsIn b i roles groups g e ≡ some (refusal (exclusionNumber (exclusionAt (block policy i) e)) (i + 1) (e + 1))
   unfolding failsIn unless
   exclusion-fails h f = rw (← same, h, f)
 
-  pub exclusion-passes : x ≡ false → failsIn b i all groups g q e ≡ none
+  pub exclusion-passes : x ≡ false → failsIn b i roles groups g e ≡ none
   unfolding failsIn unless
   exclusion-passes h = rw (← same, h)
 

@@ -1,12 +1,13 @@
 -- Steps 1 to 3 from what their code finds: the rules that the request fits, the pass over the records, the rules that judge, and the search.
 -- Assumes nothing.
-use Prim.Native.Nat.{ℕ, _+_, _*_, _<_}
+use Prim.Native.Nat.{ℕ, _+_, _*_, _<_, min}
+use native.Mathlib.Decide.{decLt}
 use native.Mathlib.Omega.{arith}
 use mathlib.Core.Path.{_≡_, refl, sym, ap, ap₂, _∙_}
-use mathlib.Core.Bool.{Bool, true, false, cond, not, _&&_, _||_}
+use mathlib.Core.Bool.{Bool, true, false, cond, not, _&&_, _||_, false≢true, or-false}
 use mathlib.Core.List.{List, [], _∷_, map}
 use mathlib.Core.Option.{Option, none, some}
-use lib.ListN.{length, length-map, length-append}
+use lib.ListN.{length, getD, length-map, length-append}
 use lib.Dec.{eqb, leb}
 use Rattle.words.specs.Lists.{keep, anyOf}
 use Rattle.words.specs.First.{_orElse_, unless, first}
@@ -14,8 +15,8 @@ use Rattle.words.specs.Bytes.{byteAt, bit}
 use Rattle.words.proofs.Every.{Every, empty, more, every-append, every-keep, every-map, every-tab}
 use Rattle.words.proofs.Keep.{keep-append, keep-keep, keep-map, anyOf-append}
 use Rattle.words.proofs.First.{first-same, first-none}
-use Rattle.words.proofs.Bits.{bit-none, bit-bits, bits-same}
-use Rattle.words.proofs.BitLaws.{bit-or, bits-none}
+use Rattle.words.proofs.Bits.{bit-none, bit-bits, bit-beyond, bits-same}
+use Rattle.words.proofs.BitLaws.{bits-none}
 use Rattle.words.proofs.Tests.{both-first}
 use Rattle.format.specs.Answer.{Refusal, refusal}
 use Rattle.format.specs.Layout.{requestBytes}
@@ -30,13 +31,14 @@ use Rattle.judge.specs.Tally.{sameUser, counted, reached, exclusionNumber}
 use Rattle.judge.specs.Verdict.{permitted, judges, failing, verdict}
 use Rattle.judge.specs.NewTable.{standsIn, openIn, pastIn}
 use Rattle.request_check.specs.RequestWords.{doneWord}
-use Rattle.tally.specs.Code.{rolesIn, timesIn, rolesTaken, reachedIn}
-use Rattle.groups.specs.Code.{fittingIn, countsFor, Scanned}
+use Rattle.tally.specs.Code.{rolesIn, timesIn}
+use Rattle.exclusion_tally.specs.Code.{reachedIn}
+use Rattle.history.specs.Code.{fittingIn, countsFor, TakenIn, Scanned}
 use Rattle.verdict.specs.Code.{judgingBy, judgingIn, failsIn, ruleFails, maskFails, VerdictIs}
 use Rattle.verdict.proofs.AcceptedEntries.{exclusion-fits}
 use Rattle.request_check.proofs.Privileges.{OfBytes, part-bytes}
-use Rattle.tally.proofs.Exclusions.{n-most, tally-same}
-use Rattle.groups.proofs.Standing.{bit-fits}
+use Rattle.exclusion_tally.proofs.Exclusions.{tally-same}
+use Rattle.history.proofs.Standing.{bit-fits, more-alike}
 
 -- ---- what the rule of index i counts, from its records
 
@@ -78,10 +80,6 @@ module _ (p : Policy) (q : Request) (rs : List Record) (i : ℕ) (test : Request
   pub any-counted : anyOf test (counted q (pastIn p rs q i)) ≡ anyOf (countsFor p q i test) rs || test q
   unfolding counted past mine anyOf
   any-counted = anyOf-append test (keep mine past) (q ∷ []) ∙ ap₂ {C = Bool} _||_ any-past (or-false (test q))
-    where
-      or-false : (t : Bool) → t || false ≡ t
-      or-false true = refl
-      or-false false = refl
 
   pub count-counted : length (keep test (counted q (pastIn p rs q i))) ≡ length (keep (countsFor p q i test) rs) + cond (test q) 1 0
   unfolding counted past mine keep
@@ -167,8 +165,8 @@ module _ (policy : List ℕ) (accepted : policyFault policy ≡ none) (q : Reque
 
   -- it fits some, and a pass over the records has found this
   module _
-      (fitting opens : ℕ) (groups : List ℕ) (g : ℕ) (same : fitting ≡ fittingIn (policyOf policy) q)
-      (scan : Scanned (policyOf policy) q fitting opens groups g (recordsHere table n)) where
+      (fitting opens : ℕ) (oldActive old : List ℕ) (o : ℕ) (same : fitting ≡ fittingIn (policyOf policy) q)
+      (scan : Scanned (policyOf policy) q fitting opens oldActive old o (recordsHere table n)) where
     judges-same : (i : ℕ) → i < ruleCount policy → judges (p .rule i) q (bit i opens) ≡ judges (p .rule i) q (openIn p rs q i)
     unfolding openIn
     judges-same i h = go (fits (p .rule i) q) refl
@@ -181,7 +179,27 @@ module _ (policy : List ℕ) (accepted : policyFault policy ≡ none) (q : Reque
     unfolding judgingBy judgingIn policyOf
     judging-same = bits-same (ruleCount policy) _ _ judges-same
 
-    module _ (policy-bytes : OfBytes policy) (table-bytes : OfBytes table) (q-bytes : OfBytes q) where
+    bit-judges : (mask : ℕ) → mask ≡ judgingBy p q opens → (i : ℕ) → i < ruleCount policy → bit i mask ≡ judges (p .rule i) q (openIn p rs q i)
+    unfolding judgingBy policyOf
+    bit-judges mask is i h = ap (bit i) is ∙ bit-bits (ruleCount policy) _ i h ∙ judges-same i h
+
+    -- a rule that judges is one that the request fits
+    judging-within : (mask : ℕ) → mask ≡ judgingBy p q opens → (i : ℕ) → bit i mask ≡ true → bit i fitting ≡ true
+    unfolding judgingBy policyOf
+    judging-within mask is i e = go (decLt i (ruleCount policy))
+      where
+        go : Dec (i < ruleCount policy) → bit i fitting ≡ true
+        go (yes h) = fits-bit fitting same i h ∙ judging-fits i (openIn p rs q i) (sym (bit-judges mask is i h) ∙ e)
+        go (no h) = absurd (false≢true (sym (ap (bit i) is ∙ bit-beyond (ruleCount policy) _ i (omega arith)) ∙ e))
+
+    -- the request is taken in too, for the rules that judge it
+    module _
+        (mask : ℕ) (is : mask ≡ judgingBy (policyOf policy) q opens) (ever full r d : ℕ) (active heads groups : List ℕ) (g : ℕ)
+        (is-roles : r ≡ roles q) (is-done : d ≡ doneWord q) (added : TakenIn true mask r d oldActive old o ever full active heads groups g)
+        (policy-bytes : OfBytes policy) (table-bytes : OfBytes table) (q-bytes : OfBytes q) where
+      taken : TakenIn true mask (roles q) (doneWord q) oldActive old o ever full active heads groups g
+      taken = rw (is-roles, is-done) at added
+
       qs : ℕ → List Request
       qs i = counted q (pastIn p rs q i)
 
@@ -189,64 +207,64 @@ module _ (policy : List ℕ) (accepted : policyFault policy ≡ none) (q : Reque
       unfolding qs
       each i = counted-bytes p table n q i table-bytes q-bytes
 
-      -- an exclusion of a rule that the request fits
-      roles-are : (i : ℕ) → bit i fitting ≡ true → (k : ℕ) → bit k (rolesTaken groups i g q) ≡ anyOf (λ r. bit k (roles r)) (qs i)
-      unfolding rolesTaken qs
-      roles-are i h k =
-          bit-or k (rolesIn groups i g) (roles q)
-          ∙ ap (λ (t : Bool). t || bit k (roles q)) (scan .allRoles i h k)
+      -- what is counted for a rule that judges
+      roles-are : (i : ℕ) → bit i mask ≡ true → (k : ℕ) → k < 32 → bit k (rolesIn active i) ≡ anyOf (λ r. bit k (roles r)) (qs i)
+      unfolding rolesIn qs
+      roles-are i m k l =
+          bit-bits 32 (λ j. bit i (getD active j 0)) k l
+          ∙ taken .allRoles k l i
+          ∙ ap₂ {C = Bool} (λ a b. a || (b && (true && bit k (roles q)))) (scan .allRoles i (judging-within mask is i m) k l) m
           ∙ sym (any-counted p q rs i (λ r. bit k (roles r)))
 
-      times-are : (i : ℕ) → bit i fitting ≡ true → (d : ℕ) → timesIn groups i d g + cond (eqb (doneWord q) d) 1 0 ≡ length (keep (λ r. eqb (doneWord r) d) (qs i))
+      times-are : (i : ℕ) → bit i mask ≡ true → (d : ℕ) → min 15 (timesIn groups i d g) ≡ min 15 (length (keep (λ r. eqb (doneWord r) d) (qs i)))
       unfolding qs
-      times-are i h d =
-          ap (λ (k : ℕ). k + cond (eqb (doneWord q) d) 1 0) (scan .allTimes i h d)
-          ∙ sym (count-counted p q rs i (λ r. eqb (doneWord r) d))
+      times-are i m d =
+          taken .allTimes i d
+          ∙ ap (λ (b : Bool). min 15 (timesIn old i d o + cond (b && (true && eqb (doneWord q) d)) 1 0)) m
+          ∙ more-alike (timesIn old i d o) (length (keep (countsFor p q i (λ r. eqb (doneWord r) d)) rs)) _ (scan .allTimes i (judging-within mask is i m) d)
+          ∙ ap (min 15) (sym (count-counted p q rs i (λ r. eqb (doneWord r) d)))
 
+      -- an exclusion of a rule that judges
       reached-same :
-          (i : ℕ) → i < ruleCount policy → bit i fitting ≡ true → (e : ℕ) → e < byteAt (block policy i) 9
-          → reachedIn (block policy i) e i (rolesTaken groups i g q) groups g q ≡ reached (exclusionAt (block policy i) e) (qs i)
+          (i : ℕ) → i < ruleCount policy → bit i mask ≡ true → (e : ℕ) → e < byteAt (block policy i) 9
+          → reachedIn (block policy i) e i (rolesIn active i) groups g ≡ reached (exclusionAt (block policy i) e) (qs i)
       unfolding reachedIn reached
-      reached-same i h f e l =
+      reached-same i h m e l =
           ap (leb (exclusionAt (block policy i) e .m))
-          (tally-same (block policy i) e (qs i) i (rolesTaken groups i g q) groups g q (part-bytes policy (512 * i) 512 policy-bytes) (each i)
-          (n-most (exclusionAt (block policy i) e) (exclusion-fits policy accepted i h e l)) (roles-are i f) (times-are i f))
+          (tally-same (block policy i) e (qs i) i (rolesIn active i) groups g (part-bytes policy (512 * i) 512 policy-bytes) (each i)
+          (exclusion-fits policy accepted i h e l) (roles-are i m) (times-are i m))
 
-      -- a rule that the request fits, and any rule
+      -- a rule that judges, and any rule
       rule-same :
-          (i : ℕ) → i < ruleCount policy → bit i fitting ≡ true → ruleFails (block policy i) i groups g q ≡ failing i (p .rule i) q (pastIn p rs q i)
+          (i : ℕ) → i < ruleCount policy → bit i mask ≡ true → ruleFails (block policy i) i active groups g ≡ failing i (p .rule i) q (pastIn p rs q i)
       unfolding ruleFails failing failsIn policyOf ruleAt qs
-      rule-same i h f =
+      rule-same i h m =
           first-same _ _ 0 (byteAt (block policy i) 9)
-          (λ e lo hi. ap (λ (t : Bool). unless (not t) (refusal (exclusionNumber (exclusionAt (block policy i) e)) (i + 1) (e + 1))) (reached-same i h f e (omega arith)))
+          (λ e lo hi. ap (λ (t : Bool). unless (not t) (refusal (exclusionNumber (exclusionAt (block policy i) e)) (i + 1) (e + 1))) (reached-same i h m e (omega arith)))
 
-      bit-judges : (mask : ℕ) → mask ≡ judgingBy p q opens → (i : ℕ) → i < ruleCount policy → bit i mask ≡ judges (p .rule i) q (openIn p rs q i)
-      unfolding judgingBy policyOf
-      bit-judges mask is i h = ap (bit i) is ∙ bit-bits (ruleCount policy) _ i h ∙ judges-same i h
-
-      row-same : (mask : ℕ) → mask ≡ judgingBy p q opens → (i : ℕ) → i < ruleCount policy → maskFails policy mask groups g q i ≡ row i
+      row-same : (i : ℕ) → i < ruleCount policy → maskFails policy mask active groups g i ≡ row i
       unfolding maskFails row
-      row-same mask is i h = go (judges (p .rule i) q (openIn p rs q i)) refl
+      row-same i h = go (judges (p .rule i) q (openIn p rs q i)) refl
         where
           here : bit i mask ≡ judges (p .rule i) q (openIn p rs q i)
           here = bit-judges mask is i h
 
           go :
               (t : Bool) → judges (p .rule i) q (openIn p rs q i) ≡ t
-              → cond (bit i mask) (ruleFails (block policy i) i groups g q) none ≡ cond (judges (p .rule i) q (openIn p rs q i)) (failing i (p .rule i) q (pastIn p rs q i)) none
-          go true e = rw (here, e) (rule-same i h (fits-bit fitting same i h ∙ judging-fits i (openIn p rs q i) e))
+              → cond (bit i mask) (ruleFails (block policy i) i active groups g) none ≡ cond (judges (p .rule i) q (openIn p rs q i)) (failing i (p .rule i) q (pastIn p rs q i)) none
+          go true e = rw (here, e) (rule-same i h (here ∙ e))
           go false e = rw (here, e)
 
       -- what the search found
       pub verdict-found :
-          (mask rules : ℕ) (found : Option Refusal) → permitted (policyOf policy) q ≡ true → mask ≡ judgingBy (policyOf policy) q opens → rules ≡ ruleCount policy
-          → found ≡ first (maskFails policy mask groups g q) 0 rules → VerdictIs (policyOf policy) (recordsHere table n) q found mask
-      verdict-found mask rules found granted is count search-found =
+          (rules : ℕ) (found : Option Refusal) → permitted (policyOf policy) q ≡ true → rules ≡ ruleCount policy
+          → found ≡ first (maskFails policy mask active groups g) 0 rules → VerdictIs (policyOf policy) (recordsHere table n) q found mask
+      verdict-found rules found granted count search-found =
           record {
             faults =
                 search-found
-                ∙ ap (first (maskFails policy mask groups g q) 0) count
-                ∙ first-same (maskFails policy mask groups g q) row 0 (ruleCount policy) (λ i lo hi. row-same mask is i (omega arith))
+                ∙ ap (first (maskFails policy mask active groups g) 0) count
+                ∙ first-same (maskFails policy mask active groups g) row 0 (ruleCount policy) (λ i lo hi. row-same i (omega arith))
                 ∙ sym (verdict-rows granted);
             marks = λ h. is ∙ judging-same;
           }

@@ -20,7 +20,8 @@ use Rattle.format.specs.Table.{Record}
 use Rattle.judge.specs.Tally.{exclusionNumber}
 use Rattle.judge.specs.Verdict.{judges, verdict}
 use Rattle.judge.specs.NewTable.{openIn, pastIn}
-use Rattle.tally.specs.Code.{rolesTaken, reachedIn}
+use Rattle.tally.specs.Code.{rolesIn}
+use Rattle.exclusion_tally.specs.Code.{reachedIn}
 use Rattle.verdict.specs.declared.verdicts.Failing.{Failing}
 use Rattle.verdict.specs.declared.verdicts.Failing.the-variants.{Nowhere, At}
 
@@ -54,16 +55,16 @@ judgingIn p rs q = bits (p .rules) (λ i. judges (p .rule i) q (openIn p rs q i)
 -- ---- step 3
 
 -- exclusion e fails
-unfoldable pub failsIn : List ℕ → ℕ → ℕ → List ℕ → ℕ → Request → ℕ → Option Refusal
-failsIn b i all groups g q e =
-    unless (not (reachedIn b e i all groups g q)) (refusal (exclusionNumber (exclusionAt b e)) (i + 1) (e + 1))
+unfoldable pub failsIn : List ℕ → ℕ → ℕ → List ℕ → ℕ → ℕ → Option Refusal
+failsIn b i roles groups g e =
+    unless (not (reachedIn b e i roles groups g)) (refusal (exclusionNumber (exclusionAt b e)) (i + 1) (e + 1))
 
 -- the first that fails of the rule, and of the rules that a mask has
-unfoldable pub ruleFails : List ℕ → ℕ → List ℕ → ℕ → Request → Option Refusal
-ruleFails b i groups g q = first (failsIn b i (rolesTaken groups i g q) groups g q) 0 (byteAt b 9)
+unfoldable pub ruleFails : List ℕ → ℕ → List ℕ → List ℕ → ℕ → Option Refusal
+ruleFails b i active groups g = first (failsIn b i (rolesIn active i) groups g) 0 (byteAt b 9)
 
-unfoldable pub maskFails : List ℕ → ℕ → List ℕ → ℕ → Request → ℕ → Option Refusal
-maskFails policy mask groups g q i = cond (bit i mask) (ruleFails (block policy i) i groups g q) none
+unfoldable pub maskFails : List ℕ → ℕ → List ℕ → List ℕ → ℕ → ℕ → Option Refusal
+maskFails policy mask active groups g i = cond (bit i mask) (ruleFails (block policy i) i active groups g) none
 
 -- what the search found, as a refusal: "32 for kind 1, 33 for kind 2", with rule and exclusion from 1
 abbrev pub failingOf : List ℕ → Failing → Option Refusal

@@ -9,9 +9,9 @@ ghost use Rattle.format.specs.Policy.{policyFault, policyOf, permissionAt};
 ghost use Rattle.judge.specs.Verdict.{grants as grantsOf, permitted as permittedBy};
 ghost use Rattle.verdict.specs.Code.{entriesOf, EntriesFit};
 use exclusion_check::privilege;
+use exclusion_tally::counting::has_role;
 use format::number::Role;
 use request_check::request;
-use tally::tallies::has_role;
 use words::field::u16_at;
 use words::field::u32_at;
 

@@ -8,7 +8,7 @@ ghost use Rattle.words.specs.Bytes.{bit as bitOf};
 ghost use Rattle.format.specs.Rule.{ruleAt, isSet};
 ghost use Rattle.format.specs.Policy.{policyFault, policyOf, ruleCount};
 ghost use Rattle.judge.specs.Verdict.{isFirst};
-ghost use Rattle.groups.specs.Code.{fittingIn};
+ghost use Rattle.history.specs.Code.{fittingIn};
 ghost use Rattle.verdict.specs.Code.{judgingBy};
 use request_check::fits::fits;
 use request_check::steps::is_first;

@@ -1,7 +1,7 @@
 // Step 3 of the judge, and steps 1 to 3 together.
 ghost use mathlib.Core.Path.{_≡_};
 ghost use mathlib.Core.Bool.{true, cond};
-ghost use Prim.Native.Nat.{_*_, _≤_};
+ghost use Prim.Native.Nat.{_+_, _*_, _≤_};
 ghost use mathlib.Core.Option.{none};
 ghost use lib.ListN.{length};
 ghost use lib.Dec.{eqb};
@@ -10,17 +10,18 @@ ghost use Rattle.format.specs.Policy.{policyFault, policyOf, ruleCount};
 ghost use Rattle.format.specs.Place.{recordsHere};
 ghost use Rattle.format.specs.Code.{faultOf};
 ghost use Rattle.judge.specs.Verdict.{permitted as permittedBy};
-ghost use Rattle.tally.specs.Code.{GroupsFit};
-ghost use Rattle.groups.specs.Code.{HasRoom, fittingIn};
+ghost use Rattle.tally.specs.Code.{Chained};
+ghost use Rattle.history.specs.Code.{HasRoom, fittingIn};
 ghost use Rattle.verdict.specs.Code.{maskFails, failingOf, FoundIn, VerdictIs};
 use crate::permits::permitted;
 use crate::rules::fitting;
 use crate::rules::judging;
+use exclusion_tally::counting::reaches;
 use format::answer::Fault;
 use format::answer::Refusal;
-use groups::scan::scan;
-use tally::tallies::reaches;
-use tally::tallies::take_roles;
+use history::scan::scan;
+use history::scan::take;
+use tally::tallies::active_roles;
 use words::field::bit;
 use words::field::wide;
 
@@ -30,19 +31,19 @@ pub enum Failing {
     At(u32, u32),
 }
 
-// The search through the rules that judge and the exclusions of each, over the groups of this user's records and the request.
+// The search through the rules that judge and the exclusions of each, over what was taken in.
 pub fn first_failing(
     policy: &[u8],
     rules: u32,
     judging: u32,
-    q: &[u8],
+    active: &[u32; 32],
+    heads: &[u16; 1024],
     groups: &[u32],
     g: usize,
 ) -> Failing
     requires { ⌜ (policyFault (now policy) ≡ none) × (rules ≡ ruleCount (now policy)) ⌝ }
-    requires { ⌜ length (now q) ≡ 28 ⌝ }
-    requires { ⌜ GroupsFit (now groups) g ⌝ }
-    ensures { λ r. ⌜ (failingOf (now (policy .entry)) r ≡ first (maskFails (now (policy .entry)) judging (now (groups .entry)) g (now (q .entry))) 0 rules) × (FoundIn (now (policy .entry)) r) ⌝ }
+    requires { ⌜ Chained (now groups) (now heads) g ⌝ }
+    ensures { λ r. ⌜ (failingOf (now (policy .entry)) r ≡ first (maskFails (now (policy .entry)) judging (now (active .entry)) (now (groups .entry)) g) 0 rules) × (FoundIn (now (policy .entry)) r) ⌝ }
 {
     let mut i = 0u32;
     'rules: loop {
@@ -55,11 +56,11 @@ pub fn first_failing(
         }
         let at = 512 * (i as usize);
         let b = &policy[at..at + 512];
-        let taken = take_roles(groups, g, i, q);
+        let roles = active_roles(active, i);
         let n = wide(b[9]);
         let mut e = 0u32;
         while e < n {
-            if reaches(b, e as usize, i, taken.roles, groups, g, q) {
+            if reaches(b, e as usize, i, roles, groups, heads, g) {
                 break 'rules Failing::At(i, e);
             }
             e += 1;
@@ -97,7 +98,13 @@ pub struct Verdict {
     pub judging: u32,
 }
 
-// Steps 2 and 3 of a request that fits these rules: one pass over the records, then the search.
+// What came of steps 2 and 3, if the room for it was enough.
+struct Attempt {
+    whole: bool,
+    verdict: Verdict,
+}
+
+// Steps 2 and 3 of a request that fits these rules: one pass over the records, the request itself, then the search.
 fn judged(
     policy: &[u8],
     rules: u32,
@@ -106,62 +113,66 @@ fn judged(
     table: &[u8],
     n: usize,
     groups: &mut [u32],
-    hints: &mut [u16],
-) -> Verdict
+) -> Attempt
     requires { ⌜ (policyFault (now policy) ≡ none) × (rules ≡ ruleCount (now policy)) × (fitting ≡ fittingIn (policyOf (now policy)) (now q)) ⌝ }
-    requires { ⌜ (length (now q) ≡ 28) × (4 * n ≤ length (now groups)) × (length (now hints) ≡ 512) × (permittedBy (policyOf (now policy)) (now q) ≡ true) ⌝ }
+    requires { ⌜ (length (now q) ≡ 28) × (permittedBy (policyOf (now policy)) (now q) ≡ true) ⌝ }
     requires { ⌜ HasRoom (now table) n ⌝ }
-    ensures { λ r. ⌜ VerdictIs (policyOf (now (policy .entry))) (recordsHere (now (table .entry)) n) (now (q .entry)) (faultOf (r .fault)) (r .judging) ⌝ }
+    ensures { λ r. ⌜ (r .whole ≡ true → VerdictIs (policyOf (now (policy .entry))) (recordsHere (now (table .entry)) n) (now (q .entry)) (faultOf (r .verdict .fault)) (r .verdict .judging)) × (6 * n + 6 ≤ length (now (groups .entry)) → r .whole ≡ true) ⌝ }
 {
-    let found = scan(policy, rules, fitting, q, table, n, groups, hints);
-    let mask = judging(policy, rules, q, fitting, found.opens);
-    let failing = first_failing(policy, rules, mask, q, groups, found.groups);
-    Verdict {
-        fault: fault_of(policy, failing),
-        judging: mask,
-    }
-}
-
-// The same with room for the groups of at most 60 records, and for the hints: a table of few records does not pay for many.
-fn judged_few(policy: &[u8], rules: u32, fitting: u32, q: &[u8], table: &[u8], n: usize) -> Verdict
-    requires { ⌜ (policyFault (now policy) ≡ none) × (rules ≡ ruleCount (now policy)) × (fitting ≡ fittingIn (policyOf (now policy)) (now q)) ⌝ }
-    requires { ⌜ (length (now q) ≡ 28) × (n ≤ 60) × (permittedBy (policyOf (now policy)) (now q) ≡ true) ⌝ }
-    requires { ⌜ HasRoom (now table) n ⌝ }
-    ensures { λ r. ⌜ VerdictIs (policyOf (now (policy .entry))) (recordsHere (now (table .entry)) n) (now (q .entry)) (faultOf (r .fault)) (r .judging) ⌝ }
-{
-    let mut groups = [0u32; 240];
-    let mut hints = [0u16; 512];
-    judged(
+    let mut active = [0u32; 32];
+    let mut heads = [0u16; 1024];
+    let seen = scan(
         policy,
         rules,
         fitting,
         q,
         table,
         n,
-        &mut groups[0..240],
-        &mut hints[0..512],
-    )
+        &mut active,
+        &mut heads,
+        groups,
+    );
+    if !seen.whole {
+        return Attempt {
+            whole: false,
+            verdict: Verdict {
+                fault: Fault::Nothing,
+                judging: 0,
+            },
+        };
+    }
+    let mask = judging(policy, rules, q, fitting, seen.opens);
+    let tally = take(seen.tally, mask, q, 0, &mut active, &mut heads, groups);
+    let failing = first_failing(policy, rules, mask, &active, &heads, groups, tally.groups);
+    Attempt {
+        whole: true,
+        verdict: Verdict {
+            fault: fault_of(policy, failing),
+            judging: mask,
+        },
+    }
 }
 
-// The same with room for the groups of as many records as the largest table has.
+// The same with room for 60 privileges: few users do more, and the room has to be made ready for each call.
+fn judged_few(policy: &[u8], rules: u32, fitting: u32, q: &[u8], table: &[u8], n: usize) -> Attempt
+    requires { ⌜ (policyFault (now policy) ≡ none) × (rules ≡ ruleCount (now policy)) × (fitting ≡ fittingIn (policyOf (now policy)) (now q)) ⌝ }
+    requires { ⌜ (length (now q) ≡ 28) × (permittedBy (policyOf (now policy)) (now q) ≡ true) ⌝ }
+    requires { ⌜ HasRoom (now table) n ⌝ }
+    ensures { λ r. ⌜ (r .whole ≡ true → VerdictIs (policyOf (now (policy .entry))) (recordsHere (now (table .entry)) n) (now (q .entry)) (faultOf (r .verdict .fault)) (r .verdict .judging)) ⌝ }
+{
+    let mut groups = [0u32; 366];
+    judged(policy, rules, fitting, q, table, n, &mut groups[0..366])
+}
+
+// The same with room for a privilege of each record of the largest table, which is always enough.
 fn judged_many(policy: &[u8], rules: u32, fitting: u32, q: &[u8], table: &[u8], n: usize) -> Verdict
     requires { ⌜ (policyFault (now policy) ≡ none) × (rules ≡ ruleCount (now policy)) × (fitting ≡ fittingIn (policyOf (now policy)) (now q)) ⌝ }
     requires { ⌜ (length (now q) ≡ 28) × (permittedBy (policyOf (now policy)) (now q) ≡ true) ⌝ }
     requires { ⌜ HasRoom (now table) n ⌝ }
     ensures { λ r. ⌜ VerdictIs (policyOf (now (policy .entry))) (recordsHere (now (table .entry)) n) (now (q .entry)) (faultOf (r .fault)) (r .judging) ⌝ }
 {
-    let mut groups = [0u32; 7680];
-    let mut hints = [0u16; 512];
-    judged(
-        policy,
-        rules,
-        fitting,
-        q,
-        table,
-        n,
-        &mut groups[0..7680],
-        &mut hints[0..512],
-    )
+    let mut groups = [0u32; 11526];
+    judged(policy, rules, fitting, q, table, n, &mut groups[0..11526]).verdict
 }
 
 // Steps 1 to 3 over the n records of a table. A request that fits no rule is done after step 1.
@@ -188,8 +199,9 @@ pub fn verdict_of(policy: &[u8], rules: u32, q: &[u8], table: &[u8], n: usize) -
             judging: 0,
         };
     }
-    if n <= 60 {
-        return judged_few(policy, rules, mask, q, table, n);
+    let attempt = judged_few(policy, rules, mask, q, table, n);
+    if attempt.whole {
+        return attempt.verdict;
     }
     judged_many(policy, rules, mask, q, table, n)
 }

@@ -7,11 +7,11 @@ use native.Mathlib.Omega.{arith}
 use mathlib.Core.Path.{_≡_, refl, sym, ap, _∙_}
 use mathlib.Core.Bool.{Bool, true, false, cond, not, _&&_, _||_}
 use borrow.Author.Tests.{eqb-true, eqb-false, eq-eqb, ne-eqb}
-use lib.Bits.{bitAnd, bitOr, and-step, or-step, and-le-l, and-lt, or-lt}
-use lib.Dec.{eqb}
+use lib.Bits.{bitAnd, bitOr, bitXor, differ, and-step, or-step, xor-step, and-le-l, and-lt, or-lt}
+use lib.Dec.{eqb, eqb·zero-suc, eqb·suc-zero, eqb·suc-suc}
 use lib.Pow.{pow-mono, shr-shr}
 use Rattle.words.specs.Bytes.{bit, bits}
-use Rattle.words.proofs.Bits.{bits-below, bits-shift, bit-bits, bits-same}
+use Rattle.words.proofs.Bits.{bits-below, bits-shift, bit-none, bit-bits, bits-same}
 
 -- ---- one bit after another
 
@@ -37,6 +37,15 @@ bit-low x = let e : x / 2 ^ 0 ≡ x = omega arith in rw e
 pub bit-half : (i x : ℕ) → bit (suc i) x ≡ bit i (x / 2)
 unfolding bit
 bit-half i x = ap (λ (z : ℕ). eqb (z % 2) 1) (ap (λ (k : ℕ). x / 2 ^ k) (sym (one-add i)) ∙ sym (shr-shr x 1 i))
+
+-- a number of one bit
+pub bit-power : (i k : ℕ) → bit i (2 ^ k) ≡ eqb i k
+bit-power zero zero = bit-low 1
+bit-power zero (suc k) = bit-low (2 ^ suc k) ∙ ne-eqb (2 ^ suc k % 2) 1 (λ e. omega (arith, pow-suc 2 k)) ∙ sym (eqb·zero-suc k)
+bit-power (suc i) zero = bit-half i 1 ∙ bit-none i ∙ sym (eqb·suc-zero i)
+bit-power (suc i) (suc k) =
+    let e : 2 ^ suc k / 2 ≡ 2 ^ k = omega (arith, pow-suc 2 k) in
+    bit-half i (2 ^ suc k) ∙ ap (bit i) e ∙ bit-power i k ∙ sym (eqb·suc-suc i k)
 
 -- ---- two numbers, by their lowest bits and by their halves
 
@@ -72,11 +81,35 @@ low-less u v w hu hv e = go (eqb u 1) (eqb v 1) refl refl
     go true false f g = let x = eqb-true u 1 f in let y = eqb-false v 1 g in eq-eqb w 1 (omega arith)
     go false q f g = let x = eqb-false u 1 f in ne-eqb w 1 (λ h. x (omega arith))
 
+low-differ : (u v w : ℕ) → u < 2 → v < 2 → w ≡ differ u v → eqb w 1 ≡ cond (eqb u 1) (not (eqb v 1)) (eqb v 1)
+low-differ zero v w hu hv e = ap (λ (x : ℕ). eqb x 1) e
+low-differ (suc zero) zero w hu hv e = ap (λ (x : ℕ). eqb x 1) e
+low-differ (suc zero) (suc zero) w hu hv e = ap (λ (x : ℕ). eqb x 1) e
+low-differ (suc zero) (suc (suc v)) w hu hv e = absurd (omega arith)
+low-differ (suc (suc u)) v w hu hv e = absurd (omega arith)
+
 pub bit-and : (i x y : ℕ) → bit i (bitAnd x y) ≡ bit i x && bit i y
 bit-and = bitwise bitAnd _&&_ (λ x y. low-both (x % 2) (y % 2) (bitAnd x y % 2) (omega arith) (omega arith) (omega (arith, and-step x y))) (λ x y. omega (arith, and-step x y))
 
 pub bit-or : (i x y : ℕ) → bit i (bitOr x y) ≡ bit i x || bit i y
 bit-or = bitwise bitOr _||_ (λ x y. low-either (x % 2) (y % 2) (bitOr x y % 2) (omega arith) (omega arith) (omega (arith, or-step x y))) (λ x y. omega (arith, or-step x y))
+
+-- the bits that one of the two has and the other has not
+pub bit-xor : (i x y : ℕ) → bit i (bitXor x y) ≡ cond (bit i x) (not (bit i y)) (bit i y)
+bit-xor =
+    bitwise bitXor (λ a b. cond a (not b) b)
+    (λ x y. low-differ (x % 2) (y % 2) (bitXor x y % 2) (omega arith) (omega arith) (low x y))
+    (λ x y. let s = small (x % 2) (y % 2) (omega arith) (omega arith) in omega (arith, xor-step x y))
+  where
+    small : (u v : ℕ) → u < 2 → v < 2 → differ u v < 2
+    small zero v hu hv = hv
+    small (suc zero) zero hu hv = hu
+    small (suc zero) (suc zero) hu hv = omega arith
+    small (suc zero) (suc (suc v)) hu hv = absurd (omega arith)
+    small (suc (suc u)) v hu hv = absurd (omega arith)
+
+    low : (x y : ℕ) → bitXor x y % 2 ≡ differ (x % 2) (y % 2)
+    low x y = let s = small (x % 2) (y % 2) (omega arith) (omega arith) in omega (arith, xor-step x y)
 
 -- the bits of the first that the second has not
 pub bit-without : (i x y : ℕ) → bit i (x - bitAnd x y) ≡ bit i x && not (bit i y)

@@ -2,7 +2,7 @@
 -- Assumes nothing.
 use Prim.Native.Nat.{ℕ, zero, suc, _+_, _*_, _/_, _%_, _^_, _<_, _≤_}
 use mathlib.Core.Path.{_≡_, refl, sym, ap, _∙_}
-use mathlib.Core.Bool.{Bool, true, false, cond, not, _&&_, _||_}
+use mathlib.Core.Bool.{Bool, true, false, cond, not, _&&_, _||_, or-true}
 use native.Mathlib.Nat.{le-of-suc-le-suc, pow-suc}
 use native.Mathlib.Numerals.{add-one, one-add}
 use native.Mathlib.Decide.{decLt}
@@ -103,10 +103,6 @@ unfolding anyBelow
 anyBelow-at zero f i h e = absurd (omega arith)
 anyBelow-at (suc n) f i h e = go (λ k. anyBelow-at n f i k e) (decLt i n)
   where
-    or-true : (a : Bool) → a || true ≡ true
-    or-true true = refl
-    or-true false = refl
-
     go : (i < n → anyBelow n f ≡ true) → Dec (i < n) → anyBelow n f || f n ≡ true
     go ih (yes k) = rw (ih k)
     go ih (no k) = let s : i ≡ n = omega arith in rw (← s, e) (or-true (anyBelow i f))

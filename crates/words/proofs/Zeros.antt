@@ -4,7 +4,7 @@ use Prim.Native.Nat.{ℕ, zero, suc, _+_, _-_, _*_, _≤_, _<_}
 use native.Mathlib.Nat.{add-zero, add-suc, add-assoc, mul-zero, mul-suc}
 use native.Mathlib.Omega.{arith}
 use mathlib.Core.Path.{_≡_, refl, sym, ap, _∙_}
-use mathlib.Core.Bool.{Bool, true, false, _&&_, _||_, and-assoc}
+use mathlib.Core.Bool.{Bool, true, false, _&&_, _||_, and-assoc, and-true}
 use mathlib.Core.List.{List}
 use lib.ListN.{getD}
 use lib.Dec.{eqb, ltb}
@@ -17,10 +17,6 @@ use Rattle.words.proofs.Tests.{allBelow-true, allBelow-same}
 pub zeroFrom-add : (s : List ℕ) (at n m : ℕ) → zeroFrom s at (n + m) ≡ zeroFrom s at n && zeroFrom s (at + n) m
 unfolding zeroFrom allBelow
 zeroFrom-add s at n zero = rw add-zero (sym (and-true (zeroFrom s at n)))
-  where
-    and-true : (b : Bool) → b && true ≡ b
-    and-true true = refl
-    and-true false = refl
 zeroFrom-add s at n (suc m) =
     rw (add-suc n m, zeroFrom-add s at n m, and-assoc, ← add-assoc at n m)
 

@@ -1,10 +1,11 @@
 // Numbers in bytes: little-endian fields of 2 and 4 bytes, read and written, and bytes that must be zero.
 ghost use mathlib.Core.Path.{_≡_};
 ghost use mathlib.Core.Bool.{cond};
-ghost use Prim.Native.Nat.{_+_, _^_, _<_, _≤_};
+ghost use Prim.Native.Nat.{_+_, _-_, _^_, _<_, _≤_};
 ghost use mathlib.Core.List.{_++_};
 ghost use lib.ListN.{length, take, drop};
 ghost use lib.Seq.{sets};
+ghost use lib.Bits.{bitAnd};
 ghost use Rattle.words.specs.Bytes.{u16At, u32At, bytes2, bytes4, zeroFrom, bit as bitOf};
 
 // A byte as a wider number.
@@ -76,4 +77,11 @@ pub fn flag(set: bool, i: u32) -> u32
     ensures { λ r. ⌜ r ≡ cond set (2 ^ i) 0 ⌝ }
 {
     if set { 1 << i } else { 0 }
+}
+
+// The bits of x that y has not.
+pub fn without(x: u32, y: u32) -> u32
+    ensures { λ r. ⌜ r ≡ x - bitAnd x y ⌝ }
+{
+    x - (x & y)
 }

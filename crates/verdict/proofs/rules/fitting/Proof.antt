@@ -15,7 +15,7 @@ use mathlib.Core.Bool.{Bool}
 use mathlib.Core.List.{List}
 use mathlib.Core.Path.{_≡_, sym, ap, ap₂, _∙_}
 use Prim.Native.Nat.{ℕ, _-_, _*_, _+_, _≤_}
-use Rattle.groups.specs.Code.{fittingIn}
+use Rattle.history.specs.Code.{fittingIn}
 use Rattle.format.specs.Fits.{fits as fitsRule}
 use borrow.Author.Needs.{needs}
 use Rattle.verdict.proofs.rules.fitting.Statement.{statement}

@@ -15,7 +15,7 @@ use mathlib.Core.List.{List}
 use mathlib.Core.Path.{_≡_, sym, ap, ap₂, _∙_}
 use Prim.Native.Nat.{ℕ, _-_, _*_, _+_, _≤_}
 use Rattle.verdict.specs.Code.{judgingBy}
-use Rattle.groups.proofs.Standing.{bit-fits}
+use Rattle.history.proofs.Standing.{bit-fits}
 use Rattle.judge.specs.Verdict.{judges, isFirst}
 use Rattle.format.specs.Rule.{isSet}
 use mathlib.Core.Bool.{not, _&&_, _||_}

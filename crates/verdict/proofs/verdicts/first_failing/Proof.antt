@@ -6,7 +6,6 @@ use Rattle.verdict.proofs.Nested.{left, row-hit, row-more, row-done}
 use Rattle.verdict.proofs.Cut.{cut}
 use Rattle.verdict.specs.Code.{failsIn, maskFails}
 use Rattle.format.proofs.AcceptedPolicy.{rules-most, rule-inside}
-use Rattle.format.specs.Request.{Request}
 use Rattle.format.specs.Answer.{Refusal}
 use Rattle.words.proofs.First.{first-start, first-done}
 use Rattle.words.specs.First.{first}
@@ -20,34 +19,29 @@ use borrow.Author.Needs.{needs}
 use Rattle.verdict.proofs.verdicts.first_failing.Statement.{statement}
 use Rattle.verdict.proofs.verdicts.first_failing.Tie as tie
 
--- what each rule finds, and what the search has to
-abbrev rows : List ℕ → ℕ → List ℕ → ℕ → Request → ℕ → Option Refusal
-rows policy judging groups g q = maskFails policy judging groups g q
-
-abbrev whole : List ℕ → ℕ → ℕ → Request → List ℕ → ℕ → Option Refusal
-whole policy rules judging q groups g = first (rows policy judging groups g q) 0 rules
+-- what the search has to find
+abbrev whole : List ℕ → ℕ → ℕ → List ℕ → List ℕ → ℕ → Option Refusal
+whole policy rules judging active groups g = first (maskFails policy judging active groups g) 0 rules
 
 abbrev Inv-loop : tie.InvT-loop
-Inv-loop policy rules judging q groups g i at b taken n e₀ e =
-    (e ≤ n) × (left (rows policy judging groups g q) (failsIn b i (taken .roles) groups g q) i rules e n ≡ whole policy rules judging q groups g)
+Inv-loop policy rules judging active heads groups g i at b roles n e₀ e = (e ≤ n) × (left (maskFails policy judging active groups g) (failsIn b i roles groups g) i rules e n ≡ whole policy rules judging active groups g)
 
 abbrev μ-loop : tie.MeasureT-loop
-μ-loop policy rules judging q groups g i at b taken n e₀ e = n - e
+μ-loop policy rules judging active heads groups g i at b roles n e₀ e = n - e
 
 abbrev Inv-rules : tie.InvT-rules
-Inv-rules policy rules judging q groups g i₀ i = (i ≤ rules) × (first (rows policy judging groups g q) i (rules - i) ≡ whole policy rules judging q groups g)
+Inv-rules policy rules judging active heads groups g i₀ i = (i ≤ rules) × (first (maskFails policy judging active groups g) i (rules - i) ≡ whole policy rules judging active groups g)
 
 abbrev μ-rules : tie.MeasureT-rules
-μ-rules policy rules judging q groups g i₀ i = rules - i
+μ-rules policy rules judging active heads groups g i₀ i = rules - i
 
 rules-holds : tie.Need-rules-holds Inv-loop μ-loop Inv-rules μ-rules
-rules-holds c =
-    (omega arith, first-start _ _)
+rules-holds c = (omega arith, first-start _ _)
 
 bit-requires : tie.Need-bit-requires Inv-loop μ-loop Inv-rules μ-rules
 bit-requires c κs =
-    let p = c .before .before .before .before .before .pre in
-    let a = c .before .before .before .before .before .args in
+    let p = c .before .before .before .before .pre in
+    let a = c .before .before .before .before .args in
     omega (arith, rules-most (a .policy .now) (p .0 .0))
 
 add-i : tie.Need-add-i Inv-loop μ-loop Inv-rules μ-rules
@@ -58,27 +52,26 @@ rules-less c = search needs
 
 rules-again : tie.Need-rules-again Inv-loop μ-loop Inv-rules μ-rules
 rules-again c =
-    let a = c .before .before .before .before .before .before .before .args in
+    let a = c .before .before .before .before .before .before .args in
     let rules = c .before .before .before .rules in
     let bit = c .before .bit in
-    let if2 = c .if2 in
-    let no = sym (bit .ensures) ∙ not-true (bit .result) (if2 .taken) in
-    (omega arith, rule-silent (a .policy .now) (a .judging) (a .groups .now) (a .g) (a .q .now) (rules .i) (a .rules) (rules .inv .1) (omega arith) no)
+    let no = sym (bit .ensures) ∙ not-true (bit .result) (c .if2 .taken) in
+    (omega arith, rule-silent (a .policy .now) (a .judging) (a .active .now) (a .groups .now) (a .g) (rules .i) (a .rules) (rules .inv .1) (omega arith) no)
 
 cast-at : tie.Need-cast-at Inv-loop μ-loop Inv-rules μ-rules
 cast-at c = search needs
 
 mul-at : tie.Need-mul-at Inv-loop μ-loop Inv-rules μ-rules
 mul-at c =
-    let p = c .before .before .before .before .before .before .before .pre in
-    let a = c .before .before .before .before .before .before .before .args in
+    let a = c .before .before .before .before .before .before .args in
+    let p = c .before .before .before .before .before .before .pre in
     let rules = c .before .before .before .rules in
     omega (arith, rule-inside (a .policy .now) (p .0 .0) (rules .i) (omega arith))
 
 add-b : tie.Need-add-b Inv-loop μ-loop Inv-rules μ-rules
 add-b c =
-    let p = c .before .before .before .before .before .before .before .pre in
-    let a = c .before .before .before .before .before .before .before .args in
+    let a = c .before .before .before .before .before .before .args in
+    let p = c .before .before .before .before .before .before .pre in
     let rules = c .before .before .before .rules in
     omega (arith, rule-inside (a .policy .now) (p .0 .0) (rules .i) (omega arith))
 
@@ -90,16 +83,16 @@ part-b-start c = search needs
 
 part-b-end : tie.Need-part-b-end Inv-loop μ-loop Inv-rules μ-rules
 part-b-end c =
-    let p = c .before .before .before .before .before .before .before .pre in
-    let a = c .before .before .before .before .before .before .before .args in
+    let a = c .before .before .before .before .before .before .args in
+    let p = c .before .before .before .before .before .before .pre in
     let rules = c .before .before .before .rules in
     omega (arith, rule-inside (a .policy .now) (p .0 .0) (rules .i) (omega arith))
 
-take-roles-requires : tie.Need-take-roles-requires Inv-loop μ-loop Inv-rules μ-rules
-take-roles-requires c κs =
-    let p = c .before .before .before .before .before .before .before .before .pre in
-    let a = c .before .before .before .before .before .before .before .before .args in
-    (p .1 .1, (omega (arith, rules-most (a .policy .now) (p .0 .0)), p .1 .0))
+active-roles-requires : tie.Need-active-roles-requires Inv-loop μ-loop Inv-rules μ-rules
+active-roles-requires c κs =
+    let p = c .before .before .before .before .before .before .before .pre in
+    let a = c .before .before .before .before .before .before .before .args in
+    omega (arith, rules-most (a .policy .now) (p .0 .0))
 
 shared-slice-read-wide : tie.Need-shared-slice-read-wide Inv-loop μ-loop Inv-rules μ-rules
 shared-slice-read-wide c = search needs
@@ -109,27 +102,25 @@ wide-requires c κs = search needs
 
 loop-holds : tie.Need-loop-holds Inv-loop μ-loop Inv-rules μ-rules
 loop-holds c =
-    let a = c .before .before .before .before .before .before .before .before .before .before .before .args in
+    let a = c .before .before .before .before .before .before .before .before .before .before .args in
     let rules = c .before .before .before .before .before .before .before .rules in
     let bit = c .before .before .before .before .before .bit in
-    let if2 = c .before .before .before .before .if2 in
-    let take-roles = c .before .before .take-roles in
+    let active-roles = c .before .before .active-roles in
     let wide = c .wide in
-    let yes = sym (bit .ensures) ∙ not-false (bit .result) (if2 .left) in
-    (omega arith, rule-judges (a .policy .now) (a .judging) (a .groups .now) (a .g) (a .q .now) (rules .i) (a .rules) (rules .inv .1) (omega arith) (take-roles .result .roles) (wide .result) _ yes (cut (a .policy .now) (512 * rules .i) 512) (wide .ensures .0) (take-roles .ensures))
+    let yes = sym (bit .ensures) ∙ not-false (bit .result) (c .before .before .before .before .if2 .left) in
+    (omega arith, rule-judges (a .policy .now) (a .judging) (a .active .now) (a .groups .now) (a .g) (rules .i) (a .rules) (rules .inv .1) (omega arith) (active-roles .result) (wide .result) _ yes (cut (a .policy .now) (512 * rules .i) 512) (wide .ensures .0) (active-roles .ensures))
 
 cast-reaches : tie.Need-cast-reaches Inv-loop μ-loop Inv-rules μ-rules
 cast-reaches c = search needs
 
 reaches-requires : tie.Need-reaches-requires Inv-loop μ-loop Inv-rules μ-rules
 reaches-requires c κs =
-    let p = c .before .before .before .before .before .before .before .before .before .before .before .before .before .pre in
-    let a = c .before .before .before .before .before .before .before .before .before .before .before .before .before .args in
+    let p = c .before .before .before .before .before .before .before .before .before .before .before .before .pre in
+    let a = c .before .before .before .before .before .before .before .before .before .before .before .before .args in
     let rules = c .before .before .before .before .before .before .before .before .before .rules in
     let wide = c .before .before .wide in
     let l = c .before .loop in
-    let loop-test = c .loop-test in
-    (exclusion-ready (a .policy .now) _ (rules .i) (l .e) (wide .result) (p .0 .0) (omega arith) (cut (a .policy .now) (512 * rules .i) 512) (wide .ensures .0) (loop-test .taken), (p .1 .1, (omega (arith, rules-most (a .policy .now) (p .0 .0)), p .1 .0)))
+    (exclusion-ready (a .policy .now) _ (rules .i) (l .e) (wide .result) (p .0 .0) (omega arith) (cut (a .policy .now) (512 * rules .i) 512) (wide .ensures .0) (c .loop-test .taken), (omega (arith, rules-most (a .policy .now) (p .0 .0)), p .1))
 
 add-e : tie.Need-add-e Inv-loop μ-loop Inv-rules μ-rules
 add-e c = search needs
@@ -139,15 +130,12 @@ loop-less c = search needs
 
 loop-again : tie.Need-loop-again Inv-loop μ-loop Inv-rules μ-rules
 loop-again c =
-    let a = c .before .before .before .before .before .before .before .before .before .before .before .before .before .before .before .args in
+    let a = c .before .before .before .before .before .before .before .before .before .before .before .before .before .before .args in
     let rules = c .before .before .before .before .before .before .before .before .before .before .before .rules in
-    let take-roles = c .before .before .before .before .before .before .take-roles in
     let wide = c .before .before .before .before .wide in
     let l = c .before .before .before .loop in
-    let loop-test = c .before .before .loop-test in
     let reaches = c .before .reaches in
-    let if3 = c .if3 in
-    (omega arith, row-more (rows (a .policy .now) (a .judging) (a .groups .now) (a .g) (a .q .now)) _ (rules .i) (a .rules) (l .e) (wide .result) (l .inv .1) (loop-test .taken) (exclusion-passes (a .policy .now) _ (rules .i) (l .e) (take-roles .result .roles) (a .groups .now) (a .g) (a .q .now) (reaches .result) (reaches .ensures) (if3 .left)))
+    (omega arith, row-more (maskFails (a .policy .now) (a .judging) (a .active .now) (a .groups .now) (a .g)) _ (rules .i) (a .rules) (l .e) (wide .result) (l .inv .1) (c .before .before .loop-test .taken) (exclusion-passes (a .policy .now) _ (rules .i) (l .e) (c .before .before .before .before .before .before .active-roles .result) (a .groups .now) (a .g) (reaches .result) (reaches .ensures) (c .if3 .left)))
 
 add-i-2 : tie.Need-add-i-2 Inv-loop μ-loop Inv-rules μ-rules
 add-i-2 c = search needs
@@ -157,35 +145,27 @@ rules-less-2 c = search needs
 
 rules-again-2 : tie.Need-rules-again-2 Inv-loop μ-loop Inv-rules μ-rules
 rules-again-2 c =
-    let a = c .before .before .before .before .before .before .before .before .before .before .before .before .before .args in
+    let a = c .before .before .before .before .before .before .before .before .before .before .before .before .args in
     let rules = c .before .before .before .before .before .before .before .before .before .rules in
-    let wide = c .before .before .wide in
     let l = c .before .loop in
-    let loop-test = c .loop-test in
-    (omega arith, row-done (rows (a .policy .now) (a .judging) (a .groups .now) (a .g) (a .q .now)) _ (rules .i) (a .rules) (l .e) (wide .result) (l .inv .1) (loop-test .left))
+    (omega arith, row-done (maskFails (a .policy .now) (a .judging) (a .active .now) (a .groups .now) (a .g)) _ (rules .i) (a .rules) (l .e) (c .before .before .wide .result) (l .inv .1) (c .loop-test .left))
 
 returns : tie.Need-returns Inv-loop μ-loop Inv-rules μ-rules
 returns c =
-    let a = c .before .before .before .before .before .args in
     let rules = c .before .rules in
-    let if1 = c .if1 in
-    (first-done _ (rules .i) (a .rules) (rules .inv .1) (if1 .taken), tt)
+    (first-done _ (rules .i) (c .before .before .before .before .args .rules) (rules .inv .1) (c .if1 .taken), tt)
 
 returns-2 : tie.Need-returns-2 Inv-loop μ-loop Inv-rules μ-rules
 returns-2 c =
-    let p = c .before .before .before .before .before .before .before .before .before .before .before .before .before .before .before .pre in
-    let a = c .before .before .before .before .before .before .before .before .before .before .before .before .before .before .before .args in
+    let p = c .before .before .before .before .before .before .before .before .before .before .before .before .before .before .pre in
+    let a = c .before .before .before .before .before .before .before .before .before .before .before .before .before .before .args in
     let rules = c .before .before .before .before .before .before .before .before .before .before .before .rules in
-    let if1 = c .before .before .before .before .before .before .before .before .before .before .if1 in
-    let take-roles = c .before .before .before .before .before .before .take-roles in
     let wide = c .before .before .before .before .wide in
     let l = c .before .before .before .loop in
-    let loop-test = c .before .before .loop-test in
     let reaches = c .before .reaches in
-    let if3 = c .if3 in
-    let below : rules .i < ruleCount (a .policy .now) = omega (arith, if1 .left, p .0 .1) in
-    let ready = exclusion-ready (a .policy .now) _ (rules .i) (l .e) (wide .result) (p .0 .0) below (cut (a .policy .now) (512 * rules .i) 512) (wide .ensures .0) (loop-test .taken) in (
-      row-hit (rows (a .policy .now) (a .judging) (a .groups .now) (a .g) (a .q .now)) _ (rules .i) (a .rules) (l .e) (wide .result) (l .inv .1) (loop-test .taken) (exclusion-fails (a .policy .now) _ (rules .i) (l .e) (take-roles .result .roles) (a .groups .now) (a .g) (a .q .now) (reaches .result) (reaches .ensures) (if3 .taken) (cut (a .policy .now) (512 * rules .i) 512)),
+    let below : rules .i < ruleCount (a .policy .now) = omega (arith, c .before .before .before .before .before .before .before .before .before .before .if1 .left, p .0 .1) in
+    let ready = exclusion-ready (a .policy .now) _ (rules .i) (l .e) (wide .result) (p .0 .0) below (cut (a .policy .now) (512 * rules .i) 512) (wide .ensures .0) (c .before .before .loop-test .taken) in (
+      row-hit (maskFails (a .policy .now) (a .judging) (a .active .now) (a .groups .now) (a .g)) _ (rules .i) (a .rules) (l .e) (wide .result) (l .inv .1) (c .before .before .loop-test .taken) (exclusion-fails (a .policy .now) _ (rules .i) (l .e) (c .before .before .before .before .before .before .active-roles .result) (a .groups .now) (a .g) (reaches .result) (reaches .ensures) (c .if3 .taken) (cut (a .policy .now) (512 * rules .i) 512)),
       (omega (arith, below, rules-most (a .policy .now) (p .0 .0)), ready .1, rule-inside (a .policy .now) (p .0 .0) (rules .i) below),
     )
 
@@ -208,7 +188,7 @@ first-failing-spec =
     sub-b
     part-b-start
     part-b-end
-    take-roles-requires
+    active-roles-requires
     shared-slice-read-wide
     wide-requires
     loop-holds

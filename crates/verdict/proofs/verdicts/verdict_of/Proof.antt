@@ -15,8 +15,7 @@ returns c =
     let p = c .before .before .before .before .before .pre in
     let a = c .before .before .before .before .before .args in
     let permitted = c .before .permitted in
-    let if1 = c .if1 in
-    verdict-refused (a .policy .now) (p .0 .0) (a .q .now) (a .table .now) (a .n) (sym (permitted .ensures) ∙ not-true (permitted .result) (if1 .taken)) 0
+    verdict-refused (a .policy .now) (p .0 .0) (a .q .now) (a .table .now) (a .n) (sym (permitted .ensures) ∙ not-true (permitted .result) (c .if1 .taken)) 0
 
 fitting-requires : tie.Need-fitting-requires
 fitting-requires c κs = search needs
@@ -26,37 +25,28 @@ returns-2 c =
     let p = c .before .before .before .before .before .before .before .pre in
     let a = c .before .before .before .before .before .before .before .args in
     let permitted = c .before .before .before .permitted in
-    let if1 = c .before .before .if1 in
     let fitting = c .before .fitting in
-    let if2 = c .if2 in
-    verdict-silent (a .policy .now) (p .0 .0) (a .q .now) (a .table .now) (a .n) (fitting .result) (fitting .ensures) (if2 .taken) (sym (permitted .ensures) ∙ not-false (permitted .result) (if1 .left))
+    verdict-silent (a .policy .now) (p .0 .0) (a .q .now) (a .table .now) (a .n) (fitting .result) (fitting .ensures) (c .if2 .taken) (sym (permitted .ensures) ∙ not-false (permitted .result) (c .before .before .if1 .left))
 
 judged-few-requires : tie.Need-judged-few-requires
 judged-few-requires c κs =
-    let p = c .before .before .before .before .before .before .before .before .pre in
-    let permitted = c .before .before .before .before .permitted in
-    let if1 = c .before .before .before .if1 in
-    let fitting = c .before .before .fitting in
-    let if3 = c .if3 in
-    ((p .0 .0, p .0 .1, fitting .ensures), ((p .1 .0, if3 .taken, sym (permitted .ensures) ∙ not-false (permitted .result) (if1 .left)), p .1 .1))
+    let p = c .before .before .before .before .before .before .before .pre in
+    let permitted = c .before .before .before .permitted in
+    let fitting = c .before .fitting in
+    ((p .0 .0, p .0 .1, fitting .ensures), ((p .1 .0, sym (permitted .ensures) ∙ not-false (permitted .result) (c .before .before .if1 .left)), p .1 .1))
 
 returns-3 : tie.Need-returns-3
-returns-3 c =
-    let judged-few = c .judged-few in
-    judged-few .ensures
+returns-3 c = c .before .before .judged-few .ensures (c .before .if3 .taken)
 
 judged-many-requires : tie.Need-judged-many-requires
 judged-many-requires c κs =
-    let p = c .before .before .before .before .before .before .before .before .pre in
-    let permitted = c .before .before .before .before .permitted in
-    let if1 = c .before .before .before .if1 in
-    let fitting = c .before .before .fitting in
-    ((p .0 .0, p .0 .1, fitting .ensures), ((p .1 .0, sym (permitted .ensures) ∙ not-false (permitted .result) (if1 .left)), p .1 .1))
+    let p = c .before .before .before .before .before .before .before .before .before .pre in
+    let permitted = c .before .before .before .before .before .permitted in
+    let fitting = c .before .before .before .fitting in
+    ((p .0 .0, p .0 .1, fitting .ensures), ((p .1 .0, sym (permitted .ensures) ∙ not-false (permitted .result) (c .before .before .before .before .if1 .left)), p .1 .1))
 
 returns-4 : tie.Need-returns-4
-returns-4 c =
-    let judged-many = c .judged-many in
-    judged-many .ensures
+returns-4 c = search needs
 
 pub verdict-of-spec : {M : Type 1} → statement M
 verdict-of-spec =

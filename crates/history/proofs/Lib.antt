@@ -1,0 +1,2 @@
+pub mod TakingIn
+pub mod Standing
