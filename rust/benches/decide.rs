@@ -25,14 +25,50 @@ use std::time::Instant;
 
 fn main() {
     let typical = Typical::new();
-    let worst = Worst::new("worst", |_| 0x7F);
-    // The engine counts records that are alike together: here no two are.
-    let unlike = Worst::new("unlike", |i| 0x7F | (i as u32) << 16);
+    let alike = Kind {
+        name: "worst",
+        roles: |_| 0x7F,
+        operation: |i| 1 + i as u16 % DONE,
+        marks: |_| u32::MAX,
+    };
+    let worst = Worst::new(&alike);
+    // No two records have the same active roles, privilege or marks.
+    let roles = Worst::new(&Kind {
+        name: "roles",
+        roles: |i| 0x7F | (i as u32) << 16,
+        ..alike
+    });
+    let privileges = Worst::new(&Kind {
+        name: "privileges",
+        operation: |i| match i as u16 {
+            i @ 0..DONE => 1 + i,
+            i => 10_000 + i,
+        },
+        ..alike
+    });
+    // Here rule 1 has no mark at all, so that no role was ever active under all rules.
+    let marks = Worst::new(&Kind {
+        name: "marks",
+        marks: |i| 0xFFFF_FFFE ^ (i as u32) << 8,
+        ..alike
+    });
     println!("Median time of one call in microseconds; the last three columns are ratios.\n");
     heading();
-    let workloads = [typical.workloads(), worst.workloads(), unlike.workloads()];
-    for workload in workloads.iter().flatten() {
+    let workloads = [
+        typical.workloads(),
+        worst.workloads(),
+        roles.workloads(),
+        privileges.workloads(),
+        marks.workloads(),
+    ];
+    // `cargo bench --offline -- WORD` measures only the workloads that have the word in their name.
+    let word = std::env::args().skip(1).find(|a| !a.starts_with("--"));
+    let chosen = |w: &&Workload| word.as_ref().is_none_or(|word| w.name.contains(word));
+    for workload in workloads.iter().flatten().filter(chosen) {
         row(workload);
+    }
+    if word.is_some() {
+        return;
     }
     println!("\nGrowth: a refusal by 33 on a full table, by its blocks.\n");
     heading();
@@ -455,9 +491,16 @@ struct Worst {
 /// The user does operations 1 to 56, seven of the eight members of each exclusion of privileges.
 const DONE: u16 = 56;
 
+/// What the records have, by the index of each.
+struct Kind {
+    name: &'static str,
+    roles: fn(usize) -> u32,
+    operation: fn(usize) -> u16,
+    marks: fn(usize) -> u32,
+}
+
 impl Worst {
-    /// With the active roles of each record by its index.
-    fn new(name: &'static str, roles_of: impl Fn(usize) -> u32) -> Worst {
+    fn new(kind: &Kind) -> Worst {
         let exclusion = |x: u16| {
             if x.is_multiple_of(2) {
                 let mut listed: Vec<u16> = (1..=7).map(|i| 7 * x + i).collect();
@@ -493,16 +536,16 @@ impl Worst {
             .map(|i| Record {
                 request: Request {
                     user: 7,
-                    roles: roles_of(i),
-                    privilege: privilege(1 + i as u16 % DONE),
+                    roles: (kind.roles)(i),
+                    privilege: privilege((kind.operation)(i)),
                     context: Worst::context(&mut chance),
                 },
-                marks: u32::MAX,
+                marks: (kind.marks)(i),
             })
             .collect();
         let table = write_table(sums(&policy), &records, 128);
         Worst {
-            name,
+            name: kind.name,
             policy,
             table,
         }
