@@ -5,13 +5,13 @@ ghost use Prim.Native.Nat.{ℕ, _+_, _-_, _*_, _<_, _≤_};
 ghost use lib.ListN.{length};
 ghost use Rattle.words.specs.Bytes.{u16At, bit as bitOf};
 ghost use Rattle.format.specs.Rule.{exclusionAt, goodExclusion};
-ghost use Rattle.tally.specs.Code.{Chained};
+ghost use Rattle.tally.specs.Code.{Trees};
 ghost use Rattle.exclusion_tally.specs.Code.{membersAt, rolesAmong, listedWord, repeatsWord, memberCounts, membersCount, tallyIn, reachedIn};
 use exclusion_check::privilege;
 use exclusion_check::privilege::Privilege;
 use format::number::Role;
-use tally::chains::times_done;
 use tally::counts::number_if;
+use tally::groups::times_done;
 use words::field::bit;
 use words::field::u16_at;
 use words::field::wide;
@@ -75,24 +75,17 @@ fn times_listed(members: &[u32; 8], n: usize, k: usize) -> u32
 }
 
 // What member k counts under rule i: nothing if it repeats an earlier one.
-fn count_member(
-    members: &[u32; 8],
-    n: usize,
-    k: usize,
-    i: u32,
-    groups: &[u32],
-    heads: &[u16; 1024],
-    g: usize,
-) -> u32
+fn count_member(members: &[u32; 8], n: usize, k: usize, i: u32, groups: &[u32], g: usize) -> u32
     requires { ⌜ (n ≤ 8) × (k < 8) ⌝ }
-    requires { ⌜ (i < 32) × Chained (now groups) (now heads) g ⌝ }
+    requires { ⌜ (i < 32) × Trees (now groups) g ⌝ }
     ensures { λ r. ⌜ (r ≡ memberCounts (now (members .entry)) n i (now (groups .entry)) g k) × (r ≤ 8) ⌝ }
 {
     if repeats(members, k) {
         return 0;
     }
     let listed = times_listed(members, n, k);
-    let times = times_done(groups, heads, g, i, Privilege(members[k]));
+    let member = Privilege(members[k]);
+    let times = times_done(groups, g, i, member);
     if listed < times {
         return listed;
     }
@@ -100,37 +93,22 @@ fn count_member(
 }
 
 // What the n members count together.
-fn count_privileges(
-    members: &[u32; 8],
-    n: usize,
-    i: u32,
-    groups: &[u32],
-    heads: &[u16; 1024],
-    g: usize,
-) -> u32
+fn count_privileges(members: &[u32; 8], n: usize, i: u32, groups: &[u32], g: usize) -> u32
     requires { ⌜ n ≤ 8 ⌝ }
-    requires { ⌜ (i < 32) × Chained (now groups) (now heads) g ⌝ }
+    requires { ⌜ (i < 32) × Trees (now groups) g ⌝ }
     ensures { λ r. ⌜ r ≡ membersCount (now (members .entry)) n i (now (groups .entry)) g ⌝ }
 {
     let mut count = 0u32;
     for k in 0..n {
-        count = count + count_member(members, n, k, i, groups, heads, g);
+        count = count + count_member(members, n, k, i, groups, g);
     }
     count
 }
 
 // The tally of exclusion e of rule i, whose block is b: `roles` has all the roles that were active under the rule.
-fn tally_of(
-    b: &[u8],
-    e: usize,
-    i: u32,
-    roles: u32,
-    groups: &[u32],
-    heads: &[u16; 1024],
-    g: usize,
-) -> u32
+fn tally_of(b: &[u8], e: usize, i: u32, roles: u32, groups: &[u32], g: usize) -> u32
     requires { ⌜ (length (now b) ≡ 512) × (e < 8) × (goodExclusion (exclusionAt (now b) e) ≡ true) ⌝ }
-    requires { ⌜ (i < 32) × Chained (now groups) (now heads) g ⌝ }
+    requires { ⌜ (i < 32) × Trees (now groups) g ⌝ }
     ensures { λ r. ⌜ r ≡ tallyIn (now (b .entry)) e i roles (now (groups .entry)) g ⌝ }
 {
     let n = wide(b[58 + 36 * e]) as usize;
@@ -138,22 +116,14 @@ fn tally_of(
         return count_roles(b, e, n, roles);
     }
     let words = members(b, e);
-    count_privileges(&words, n, i, groups, heads, g)
+    count_privileges(&words, n, i, groups, g)
 }
 
 // The exclusion's m is reached.
-pub fn reaches(
-    b: &[u8],
-    e: usize,
-    i: u32,
-    roles: u32,
-    groups: &[u32],
-    heads: &[u16; 1024],
-    g: usize,
-) -> bool
+pub fn reaches(b: &[u8], e: usize, i: u32, roles: u32, groups: &[u32], g: usize) -> bool
     requires { ⌜ (length (now b) ≡ 512) × (e < 8) × (goodExclusion (exclusionAt (now b) e) ≡ true) ⌝ }
-    requires { ⌜ (i < 32) × Chained (now groups) (now heads) g ⌝ }
+    requires { ⌜ (i < 32) × Trees (now groups) g ⌝ }
     ensures { λ r. ⌜ r ≡ reachedIn (now (b .entry)) e i roles (now (groups .entry)) g ⌝ }
 {
-    wide(b[57 + 36 * e]) <= tally_of(b, e, i, roles, groups, heads, g)
+    wide(b[57 + 36 * e]) <= tally_of(b, e, i, roles, groups, g)
 }

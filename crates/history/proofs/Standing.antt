@@ -117,13 +117,13 @@ module _ (p : Policy) (q : Request) (mask : ℕ) where
       }
 
   pub scan-turn :
-      (opens shared ever full : ℕ) (oldActive old : List ℕ) (g : ℕ) (active heads new : List ℕ) (h : ℕ) (rs : List Record) (x : Record)
+      (opens shared ever full : ℕ) (oldActive old : List ℕ) (g : ℕ) (active new : List ℕ) (h : ℕ) (rs : List Record) (x : Record)
       → Scanned p q mask opens oldActive old g rs
       → ((i : ℕ) → bit i mask ≡ true → bit i shared ≡ standsIn p q i x)
-      → TakenIn (sameUser (user q) (x .request)) shared (roles (x .request)) (doneWord (x .request)) oldActive old g ever full active heads new h
+      → TakenIn (sameUser (user q) (x .request)) shared (roles (x .request)) (doneWord (x .request)) oldActive old g ever full active new h
       → Scanned p q mask (bitOr opens shared) active new h (rs ++ (x ∷ []))
   unfolding countsFor
-  scan-turn opens shared ever full oldActive old g active heads new h rs x s is grown =
+  scan-turn opens shared ever full oldActive old g active new h rs x s is grown =
       record {
         isOpen =
             λ i m.
@@ -143,13 +143,13 @@ module _ (p : Policy) (q : Request) (mask : ℕ) where
 
   -- at record k of a table
   pub scan-record :
-      (table : List ℕ) (k at opens shared ever full : ℕ) (oldActive old : List ℕ) (g : ℕ) (active heads new : List ℕ) (h u : ℕ) → at ≡ recordPlace k → u ≡ user q
+      (table : List ℕ) (k at opens shared ever full : ℕ) (oldActive old : List ℕ) (g : ℕ) (active new : List ℕ) (h u : ℕ) → at ≡ recordPlace k → u ≡ user q
       → Scanned p q mask opens oldActive old g (recordsHere table k)
       → ((i : ℕ) → bit i mask ≡ true → bit i shared ≡ standsIn p q i (recordFrom table at))
-      → TakenIn (sameUser u (part table at requestBytes)) shared (roles (part table at requestBytes)) (doneWord (part table at requestBytes)) oldActive old g ever full active heads new h
+      → TakenIn (sameUser u (part table at requestBytes)) shared (roles (part table at requestBytes)) (doneWord (part table at requestBytes)) oldActive old g ever full active new h
       → Scanned p q mask (bitOr opens shared) active new h (recordsHere table (k + 1))
-  scan-record table k at opens shared ever full oldActive old g active heads new h u e f s is grown =
-      rw (records-more table k, ← e) (scan-turn opens shared ever full oldActive old g active heads new h (recordsHere table k) (recordFrom table at) s is (rw f at grown))
+  scan-record table k at opens shared ever full oldActive old g active new h u e f s is grown =
+      rw (records-more table k, ← e) (scan-turn opens shared ever full oldActive old g active new h (recordsHere table k) (recordFrom table at) s is (rw f at grown))
 
   -- at one that counts for no rule
   pub scan-past :

@@ -1,46 +1,45 @@
 -- What was taken in, as one record more is, or is not.
 -- Assumes nothing.
-use Prim.Native.Nat.{ℕ, _+_, _<_, min}
+use Prim.Native.Nat.{ℕ, _+_, _≤_, _<_, min}
 use native.Mathlib.Nat.{add-zero}
 use native.Mathlib.Omega.{arith}
 use mathlib.Core.Path.{_≡_, refl, sym, ap, _∙_}
 use mathlib.Core.Bool.{Bool, true, false, cond, _&&_, _||_, false≢true, and-false, or-false}
 use mathlib.Core.List.{List}
-use lib.ListN.{length, getD, replicate, length-replicate, getD-replicate}
+use lib.ListN.{length, getD, replicate, length-replicate}
 use lib.Dec.{eqb}
 use Rattle.words.specs.Bytes.{bit}
 use Rattle.words.proofs.Bits.{bit-none}
-use Rattle.tally.specs.Code.{timesIn, Full, Active, Follows, Chained, Grown}
+use Rattle.tally.specs.Code.{timesIn, Active, Grown}
 use Rattle.history.specs.Code.{Ready, TakenIn}
 
 -- nothing is taken in yet
-pub ready-start : (groups : List ℕ) → Ready 0 0 (replicate 32 0) (replicate 1024 0) groups 0
-ready-start groups =
+pub ready-start : (groups : List ℕ) → 1024 ≤ length groups → ((h : ℕ) → h < 1021 → getD groups h 0 ≡ 0) → Ready 0 0 (replicate 32 0) groups 0
+ready-start groups room none =
     record {
       size = length-replicate {A = ℕ} 32 0;
       isFull = record { known = λ k i h a. absurd (false≢true (sym (bit-none k) ∙ h)) };
-      chained =
+      trees =
           record {
             room = omega arith;
             few = omega arith;
-            size = length-replicate {A = ℕ} 1024 0;
-            start = λ h l. record { most = omega (arith, none h l); none = λ m lo hi e. omega arith; here = λ m e. absurd (omega (arith, none h l)) };
-            link = λ j l. absurd (omega arith);
+            heads = λ h l. omega (arith, none h l);
+            links = λ j b l. absurd (omega arith);
+            later = λ j b l. absurd (omega arith);
+            apart = λ j k l h. absurd (omega arith);
+            met = λ j l. absurd (omega arith);
           };
     }
-  where
-    none : (h : ℕ) → h < 1021 → _≡_ {A = ℕ} (getD (replicate 1024 0) h 0) 0
-    none h l = getD-replicate 1024 h 0 0 (omega arith)
 
 module _ (rules : ℕ) (oldActive old : List ℕ) (g : ℕ) where
   -- the roles, then the privilege, of a request that counts
   pub taken :
-      (roles done r d ever full e f : ℕ) (active heads groups : List ℕ) (h : ℕ) → r ≡ roles → d ≡ done → e ≡ ever → f ≡ full
-      → Active rules r ever full oldActive active → Grown rules d old g groups heads h
-      → TakenIn true rules roles done oldActive old g e f active heads groups h
-  taken roles done r d ever full e f active heads groups h same-roles same-done l m a n =
+      (roles done r d ever full e f : ℕ) (active groups : List ℕ) (h : ℕ) → r ≡ roles → d ≡ done → e ≡ ever → f ≡ full
+      → Active rules r ever full oldActive active → Grown rules d old g groups h
+      → TakenIn true rules roles done oldActive old g e f active groups h
+  taken roles done r d ever full e f active groups h same-roles same-done l m a n =
       record {
-        ready = rw (l, m) record { size = a .size; isFull = a .isFull; chained = n .chained };
+        ready = rw (l, m) record { size = a .size; isFull = a .isFull; trees = n .trees };
         size = n .size;
         most = n .most;
         allRoles = λ j b i. rw (← same-roles) (a .more j b i);
@@ -49,9 +48,9 @@ module _ (rules : ℕ) (oldActive old : List ℕ) (g : ℕ) where
 
   -- another user's counts nothing
   pub taken-not :
-      (counts : Bool) (roles done ever full : ℕ) (heads : List ℕ) → Ready ever full oldActive heads old g → counts ≡ false
-      → TakenIn counts rules roles done oldActive old g ever full oldActive heads old g
-  taken-not counts roles done ever full heads ready other =
+      (counts : Bool) (roles done ever full : ℕ) → Ready ever full oldActive old g → counts ≡ false
+      → TakenIn counts rules roles done oldActive old g ever full oldActive old g
+  taken-not counts roles done ever full ready other =
       record {
         ready = ready;
         size = refl;

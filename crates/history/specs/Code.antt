@@ -17,7 +17,7 @@ use Rattle.format.specs.Table.{Record}
 use Rattle.request_check.specs.RequestWords.{doneWord}
 use Rattle.judge.specs.Tally.{sameUser}
 use Rattle.judge.specs.NewTable.{standsIn}
-use Rattle.tally.specs.Code.{timesIn, Full, Chained}
+use Rattle.tally.specs.Code.{timesIn, Full, Trees}
 
 -- a table's image has room for its n records
 pub record HasRoom (table : List ℕ) (n : ℕ) : Type 0 where
@@ -28,14 +28,14 @@ pub record HasRoom (table : List ℕ) (n : ℕ) : Type 0 where
 -- ---- a record more
 
 -- what was taken in so far is in order
-pub record Ready (rules full : ℕ) (active heads groups : List ℕ) (g : ℕ) : Type 0 where
+pub record Ready (rules full : ℕ) (active groups : List ℕ) (g : ℕ) : Type 0 where
   pub size : length active ≡ 32
   pub isFull : Full rules full active
-  pub chained : Chained groups heads g
+  pub trees : Trees groups g
 
 -- what was taken in after one record more, or none if it is not one that counts
-pub record TakenIn (counts : Bool) (rules roles done : ℕ) (oldActive old : List ℕ) (g ever full : ℕ) (active heads groups : List ℕ) (h : ℕ) : Type 0 where
-  pub ready : Ready ever full active heads groups h
+pub record TakenIn (counts : Bool) (rules roles done : ℕ) (oldActive old : List ℕ) (g ever full : ℕ) (active groups : List ℕ) (h : ℕ) : Type 0 where
+  pub ready : Ready ever full active groups h
   pub size : length groups ≡ length old
   pub most : h ≤ g + 1
   pub allRoles : (k : ℕ) → k < 32 → (i : ℕ) → bit i (getD active k 0) ≡ bit i (getD oldActive k 0) || (bit i rules && (counts && bit k roles))
@@ -58,8 +58,8 @@ pub record Scanned (p : Policy) (q : Request) (mask opens : ℕ) (active groups 
   pub allTimes : (i : ℕ) → bit i mask ≡ true → (d : ℕ) → min 15 (timesIn groups i d g) ≡ min 15 (length (keep (countsFor p q i (λ r. eqb (doneWord r) d)) rs))
 
 -- the same, in order, and with room for one request more
-pub record SeenIn (p : Policy) (q : Request) (mask opens rules full : ℕ) (active heads groups : List ℕ) (g : ℕ) (rs : List Record) : Type 0 where
-  pub ready : Ready rules full active heads groups g
-  pub room : 6 * g + 6 ≤ length groups
+pub record SeenIn (p : Policy) (q : Request) (mask opens rules full : ℕ) (active groups : List ℕ) (g : ℕ) (rs : List Record) : Type 0 where
+  pub ready : Ready rules full active groups g
+  pub room : 1024 + 7 * g + 7 ≤ length groups
   pub few : g < 65535
   pub scanned : Scanned p q mask opens active groups g rs

@@ -2,8 +2,8 @@
 ghost use mathlib.Core.Path.{_≡_};
 ghost use mathlib.Core.Bool.{true};
 ghost use mathlib.Core.Option.{none};
-ghost use Prim.Native.Nat.{_+_, _-_, _*_, _<_, _≤_};
-ghost use lib.ListN.{length, replicate};
+ghost use Prim.Native.Nat.{ℕ, _+_, _-_, _*_, _<_, _≤_};
+ghost use lib.ListN.{length, getD, replicate};
 ghost use lib.Bits.{bitAnd};
 ghost use Rattle.words.specs.Bytes.{u32At, part};
 ghost use Rattle.format.specs.Request.{roles as rolesIs};
@@ -38,15 +38,14 @@ pub fn take(
     s: &[u8],
     at: usize,
     active: &mut [u32; 32],
-    heads: &mut [u16; 1024],
     groups: &mut [u32],
 ) -> Tally
-    requires { ⌜ Ready (tally .rules) (tally .full) (now active) (now heads) (now groups) (tally .groups) ⌝ }
-    requires { ⌜ (6 * tally .groups + 6 ≤ length (now groups)) × (tally .groups < 65535) × (at + 28 ≤ length (now s)) ⌝ }
-    ensures { λ r. ⌜ TakenIn true rules (rolesIs (part (now (s .entry)) at 28)) (doneWord (part (now (s .entry)) at 28)) (now (active .entry)) (now (groups .entry)) (tally .groups) (r .rules) (r .full) (now (active .exit)) (now (heads .exit)) (now (groups .exit)) (r .groups) ⌝ }
+    requires { ⌜ Ready (tally .rules) (tally .full) (now active) (now groups) (tally .groups) ⌝ }
+    requires { ⌜ (1024 + 7 * tally .groups + 7 ≤ length (now groups)) × (tally .groups < 65535) × (at + 28 ≤ length (now s)) ⌝ }
+    ensures { λ r. ⌜ TakenIn true rules (rolesIs (part (now (s .entry)) at 28)) (doneWord (part (now (s .entry)) at 28)) (now (active .entry)) (now (groups .entry)) (tally .groups) (r .rules) (r .full) (now (active .exit)) (now (groups .exit)) (r .groups) ⌝ }
 {
     let more = tally.add_roles(rules, request::roles(s, at), active);
-    more.add_privilege(rules, request::privilege(s, at), heads, groups)
+    more.add_privilege(rules, request::privilege(s, at), groups)
 }
 
 // Takes in the record at a byte, which counts for these rules, if it is this user's.
@@ -57,17 +56,16 @@ fn take_in(
     table: &[u8],
     at: usize,
     active: &mut [u32; 32],
-    heads: &mut [u16; 1024],
     groups: &mut [u32],
 ) -> Tally
-    requires { ⌜ Ready (tally .rules) (tally .full) (now active) (now heads) (now groups) (tally .groups) ⌝ }
-    requires { ⌜ (6 * tally .groups + 6 ≤ length (now groups)) × (tally .groups < 65535) × (at + 28 ≤ length (now table)) ⌝ }
-    ensures { λ r. ⌜ TakenIn (sameUser (who .0) (part (now (table .entry)) at 28)) rules (rolesIs (part (now (table .entry)) at 28)) (doneWord (part (now (table .entry)) at 28)) (now (active .entry)) (now (groups .entry)) (tally .groups) (r .rules) (r .full) (now (active .exit)) (now (heads .exit)) (now (groups .exit)) (r .groups) ⌝ }
+    requires { ⌜ Ready (tally .rules) (tally .full) (now active) (now groups) (tally .groups) ⌝ }
+    requires { ⌜ (1024 + 7 * tally .groups + 7 ≤ length (now groups)) × (tally .groups < 65535) × (at + 28 ≤ length (now table)) ⌝ }
+    ensures { λ r. ⌜ TakenIn (sameUser (who .0) (part (now (table .entry)) at 28)) rules (rolesIs (part (now (table .entry)) at 28)) (doneWord (part (now (table .entry)) at 28)) (now (active .entry)) (now (groups .entry)) (tally .groups) (r .rules) (r .full) (now (active .exit)) (now (groups .exit)) (r .groups) ⌝ }
 {
     if !same_user(table, at, who) {
         return tally;
     }
-    take(tally, rules, table, at, active, heads, groups)
+    take(tally, rules, table, at, active, groups)
 }
 
 // The rules of a mask for which the record at a byte is marked and stands in the request's run place. The marks come first: they often
@@ -100,17 +98,16 @@ pub fn scan(
     table: &[u8],
     n: usize,
     active: &mut [u32; 32],
-    heads: &mut [u16; 1024],
     groups: &mut [u32],
 ) -> Seen
     requires { ⌜ (policyFault (now policy) ≡ none) × (rules ≡ ruleCount (now policy)) × (fitting ≡ fittingIn (policyOf (now policy)) (now q)) ⌝ }
-    requires { ⌜ (length (now q) ≡ 28) × (now active ≡ replicate 32 0) × (now heads ≡ replicate 1024 0) ⌝ }
+    requires { ⌜ (length (now q) ≡ 28) × (1024 ≤ length (now groups)) × (now active ≡ replicate 32 0) × ((h : ℕ) → h < 1021 → getD (now groups) h 0 ≡ 0) ⌝ }
     requires { ⌜ HasRoom (now table) n ⌝ }
-    ensures { λ r. ⌜ (r .whole ≡ true → SeenIn (policyOf (now (policy .entry))) (now (q .entry)) fitting (r .opens) (r .tally .rules) (r .tally .full) (now (active .exit)) (now (heads .exit)) (now (groups .exit)) (r .tally .groups) (recordsHere (now (table .entry)) n)) × (6 * n + 6 ≤ length (now (groups .entry)) → r .whole ≡ true) ⌝ }
+    ensures { λ r. ⌜ (r .whole ≡ true → SeenIn (policyOf (now (policy .entry))) (now (q .entry)) fitting (r .opens) (r .tally .rules) (r .tally .full) (now (active .exit)) (now (groups .exit)) (r .tally .groups) (recordsHere (now (table .entry)) n)) × (1024 + 7 * n + 7 ≤ length (now (groups .entry)) → r .whole ≡ true) ⌝ }
 {
     let each = each_of(policy, rules);
     let who = request::user(q, 0);
-    let room = groups.len() / 6;
+    let room = (groups.len() - 1024) / 7;
     let mut opens = 0u32;
     let mut tally = Tally::new();
     for k in 0..n {
@@ -127,7 +124,7 @@ pub fn scan(
             };
         }
         opens = opens | shared;
-        tally = take_in(tally, shared, who, table, at, active, heads, groups);
+        tally = take_in(tally, shared, who, table, at, active, groups);
     }
     Seen {
         whole: tally.groups < room,

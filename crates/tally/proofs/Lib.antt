@@ -1,5 +1,5 @@
 pub mod Sums
 pub mod Binary
-pub mod Along
-pub mod Groups
+pub mod Ways
+pub mod Growing
 pub mod Roles

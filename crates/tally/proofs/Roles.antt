@@ -26,7 +26,7 @@ full-still before rules full f active h e = go (eqb rules before) refl
     go false t = record { known = λ k i x y. absurd (false≢true (sym (ap (bit k) (e ∙ rw t) ∙ bit-none k) ∙ x)) }
 
 -- all roles but those that are left have been gone through
-pub record Passed (rules roles ever full : ℕ) (old new : List ℕ) (rest : ℕ) : Type 0 where
+pub record Through (rules roles ever full : ℕ) (old new : List ℕ) (rest : ℕ) : Type 0 where
   pub size : length new ≡ 32
   pub isFull : Full ever full new
   pub within : (k : ℕ) → bit k rest ≡ true → bit k roles ≡ true
@@ -38,10 +38,10 @@ or-second before rules i h = bit-or i before rules ∙ rw h (or-true (bit i befo
 
 module _ (rules roles ever full : ℕ) (old : List ℕ) where
   -- a role of which nothing is left to learn is passed over
-  pub passed-full :
+  pub through-full :
       (rest : ℕ) → length old ≡ 32 → Full ever full old → ((i : ℕ) → bit i rules ≡ true → bit i ever ≡ true)
-      → rest ≡ roles - bitAnd roles full → Passed rules roles ever full old old rest
-  passed-full rest size isFull inside e =
+      → rest ≡ roles - bitAnd roles full → Through rules roles ever full old old rest
+  through-full rest size isFull inside e =
       record {
         size = size;
         isFull = isFull;
@@ -60,8 +60,8 @@ module _ (rules roles ever full : ℕ) (old : List ℕ) where
       go k i true false f x y = sym (or-false (bit i (getD old k 0)))
       go k i false a f x y = sym (or-false (bit i (getD old k 0)))
 
-  pub passed-all : (new : List ℕ) (rest : ℕ) → rest ≡ 0 → Passed rules roles ever full old new rest → Active rules roles ever full old new
-  passed-all new rest e p =
+  pub through-all : (new : List ℕ) (rest : ℕ) → rest ≡ 0 → Through rules roles ever full old new rest → Active rules roles ever full old new
+  through-all new rest e p =
       record {
         size = p .size;
         isFull = p .isFull;
@@ -69,7 +69,7 @@ module _ (rules roles ever full : ℕ) (old : List ℕ) where
       }
 
   -- role k is the lowest that is left
-  module _ (new : List ℕ) (rest k next all : ℕ) (p : Passed rules roles ever full old new rest) (low : Lowest rest k next) (below : k < 32) (is : all ≡ bitOr (getD new k 0) rules) where
+  module _ (new : List ℕ) (rest k next all : ℕ) (p : Through rules roles ever full old new rest) (low : Lowest rest k next) (below : k < 32) (is : all ≡ bitOr (getD new k 0) rules) where
     here : getD (set new k all) k 0 ≡ all
     here = getD-set-same new k all 0 (omega (arith, p .size))
 
@@ -123,9 +123,9 @@ module _ (rules roles ever full : ℕ) (old : List ℕ) where
             rw (s, here, has i, p .more k below i, rest-next k, low .set, p .within k (low .set), eq-eqb k k refl) (joined (bit i (getD old k 0)) (bit i rules))
         go false e = rw (there j (eqb-false j k e), p .more j l i, rest-next j, e, and-true (bit j rest))
 
-    pub passed-more :
-        (b : Bool) (f : ℕ) → b ≡ eqb all ever → f ≡ cond b (2 ^ k) 0 → Passed rules roles ever (bitOr full f) old (set new k all) next
-    passed-more b f e g =
+    pub through-more :
+        (b : Bool) (f : ℕ) → b ≡ eqb all ever → f ≡ cond b (2 ^ k) 0 → Through rules roles ever (bitOr full f) old (set new k all) next
+    through-more b f e g =
         record {
           size = length-set new k all ∙ p .size;
           isFull = full-more b f (λ t. eqb-true all ever (sym e ∙ t)) g;

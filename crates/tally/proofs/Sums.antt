@@ -4,7 +4,7 @@ use Prim.Native.Nat.{ℕ, zero, suc, _+_, _≤_, _<_}
 use native.Mathlib.Numerals.{add-one}
 use native.Mathlib.Decide.{decLt}
 use native.Mathlib.Omega.{arith}
-use mathlib.Core.Path.{_≡_, refl, sym, ap₂, _∙_}
+use mathlib.Core.Path.{_≡_, refl, sym, ap, ap₂, _∙_}
 use mathlib.Core.Bool.{Bool, true, false, _||_}
 use Rattle.words.specs.Lists.{sumBelow, anyBelow}
 use Rattle.words.proofs.Bits.{anyBelow-at}
@@ -36,6 +36,24 @@ sum-raised j f g c (suc n) l h e = go (λ k. sum-raised j f g c n k h e) (decLt 
     go ih (no k) =
         let s : n ≡ j = omega arith in
         rw (sumBelow-same n f g (λ i m. h i (λ t. omega arith))) (rw (s, e) (omega arith))
+
+-- numbers that are all 0 but one
+pub sum-none : (n : ℕ) (f : ℕ → ℕ) → ((i : ℕ) → i < n → f i ≡ 0) → sumBelow n f ≡ 0
+unfolding sumBelow
+sum-none zero f h = refl
+sum-none (suc n) f h = omega (arith, sum-none n f (λ i k. h i (omega arith)), h n (omega arith))
+
+pub sum-only : (j n : ℕ) (f : ℕ → ℕ) → j < n → ((i : ℕ) → i < n → (i ≡ j → ⊥) → f i ≡ 0) → sumBelow n f ≡ f j
+unfolding sumBelow
+sum-only j zero f l h = absurd (omega arith)
+sum-only j (suc n) f l h = go (λ k. sum-only j n f k (λ i m. h i (omega arith))) (decLt j n)
+  where
+    go : (j < n → sumBelow n f ≡ f j) → Dec (j < n) → sumBelow n f + f n ≡ f j
+    go ih (yes k) = omega (arith, ih k, h n (omega arith) (λ e. omega arith))
+    go ih (no k) =
+        let s : n ≡ j = omega arith in
+        let none = sum-none n f (λ i m. h i (omega arith) (λ e. omega arith)) in
+        omega (arith, none, ap f s)
 
 -- numbers of at most 1
 pub sum-most : (n : ℕ) (f : ℕ → ℕ) → ((i : ℕ) → f i ≤ 1) → sumBelow n f ≤ n

@@ -4,11 +4,10 @@ ghost use mathlib.Core.Bool.{cond};
 ghost use Prim.Native.Nat.{_+_, _*_, _<_, _≤_};
 ghost use lib.ListN.{length};
 ghost use lib.Dec.{eqb};
-ghost use Rattle.tally.specs.Code.{rolesIn, Full, Active, Chained, Grown};
-use crate::chains::chain_of;
-use crate::chains::find;
-use crate::chains::put_group;
-use crate::chains::raise;
+ghost use Rattle.tally.specs.Code.{rolesIn, Full, Active, Trees, Grown};
+use crate::groups::find;
+use crate::groups::put_group;
+use crate::groups::raise;
 use exclusion_check::privilege::Privilege;
 use words::field::bit;
 use words::field::flag;
@@ -61,27 +60,20 @@ impl Tally {
     }
 
     // The same: its privilege.
-    pub fn add_privilege(
-        mut self,
-        rules: u32,
-        done: Privilege,
-        heads: &mut [u16; 1024],
-        groups: &mut [u32],
-    ) -> Self
-        requires { ⌜ Chained (now groups) (now heads) (self .groups) ⌝ }
-        requires { ⌜ (6 * self .groups + 6 ≤ length (now groups)) × (self .groups < 65535) ⌝ }
-        ensures { λ r. ⌜ (r .rules ≡ self .rules) × (r .full ≡ self .full) × Grown rules (done .0) (now (groups .entry)) (self .groups) (now (groups .exit)) (now (heads .exit)) (r .groups) ⌝ }
+    pub fn add_privilege(mut self, rules: u32, done: Privilege, groups: &mut [u32]) -> Self
+        requires { ⌜ Trees (now groups) (self .groups) ⌝ }
+        requires { ⌜ (1024 + 7 * self .groups + 7 ≤ length (now groups)) × (self .groups < 65535) ⌝ }
+        ensures { λ r. ⌜ (r .rules ≡ self .rules) × (r .full ≡ self .full) × Grown rules (done .0) (now (groups .entry)) (self .groups) (now (groups .exit)) (r .groups) ⌝ }
     {
         let g = self.groups;
-        let j = find(groups, heads, g, done);
-        if j < g {
-            raise(groups, j, rules);
+        let place = find(groups, g, done);
+        if place.group < g {
+            raise(groups, place.group, rules);
             return self;
         }
-        let chain = chain_of(done);
-        let previous = heads[chain] as u32;
-        put_group(groups, g, rules, done, previous);
-        heads[chain] = (g + 1) as u16;
+        let at = place.at;
+        put_group(groups, g, rules, done);
+        groups[at] = (g + 1) as u32;
         self.groups = g + 1;
         self
     }

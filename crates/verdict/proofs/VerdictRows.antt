@@ -194,10 +194,10 @@ module _ (policy : List ℕ) (accepted : policyFault policy ≡ none) (q : Reque
 
     -- the request is taken in too, for the rules that judge it
     module _
-        (mask : ℕ) (is : mask ≡ judgingBy (policyOf policy) q opens) (ever full r d : ℕ) (active heads groups : List ℕ) (g : ℕ)
-        (is-roles : r ≡ roles q) (is-done : d ≡ doneWord q) (added : TakenIn true mask r d oldActive old o ever full active heads groups g)
+        (mask : ℕ) (is : mask ≡ judgingBy (policyOf policy) q opens) (ever full r d : ℕ) (active groups : List ℕ) (g : ℕ)
+        (is-roles : r ≡ roles q) (is-done : d ≡ doneWord q) (added : TakenIn true mask r d oldActive old o ever full active groups g)
         (policy-bytes : OfBytes policy) (table-bytes : OfBytes table) (q-bytes : OfBytes q) where
-      taken : TakenIn true mask (roles q) (doneWord q) oldActive old o ever full active heads groups g
+      taken : TakenIn true mask (roles q) (doneWord q) oldActive old o ever full active groups g
       taken = rw (is-roles, is-done) at added
 
       qs : ℕ → List Request

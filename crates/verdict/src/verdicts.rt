@@ -1,16 +1,16 @@
 // Step 3 of the judge, and steps 1 to 3 together.
 ghost use mathlib.Core.Path.{_≡_};
 ghost use mathlib.Core.Bool.{true, cond};
-ghost use Prim.Native.Nat.{_+_, _*_, _≤_};
+ghost use Prim.Native.Nat.{ℕ, _+_, _*_, _<_, _≤_};
 ghost use mathlib.Core.Option.{none};
-ghost use lib.ListN.{length};
+ghost use lib.ListN.{length, getD};
 ghost use lib.Dec.{eqb};
 ghost use Rattle.words.specs.First.{first};
 ghost use Rattle.format.specs.Policy.{policyFault, policyOf, ruleCount};
 ghost use Rattle.format.specs.Place.{recordsHere};
 ghost use Rattle.format.specs.Code.{faultOf};
 ghost use Rattle.judge.specs.Verdict.{permitted as permittedBy};
-ghost use Rattle.tally.specs.Code.{Chained};
+ghost use Rattle.tally.specs.Code.{Trees};
 ghost use Rattle.history.specs.Code.{HasRoom, fittingIn};
 ghost use Rattle.verdict.specs.Code.{maskFails, failingOf, FoundIn, VerdictIs};
 use crate::permits::permitted;
@@ -37,12 +37,11 @@ pub fn first_failing(
     rules: u32,
     judging: u32,
     active: &[u32; 32],
-    heads: &[u16; 1024],
     groups: &[u32],
     g: usize,
 ) -> Failing
     requires { ⌜ (policyFault (now policy) ≡ none) × (rules ≡ ruleCount (now policy)) ⌝ }
-    requires { ⌜ Chained (now groups) (now heads) g ⌝ }
+    requires { ⌜ Trees (now groups) g ⌝ }
     ensures { λ r. ⌜ (failingOf (now (policy .entry)) r ≡ first (maskFails (now (policy .entry)) judging (now (active .entry)) (now (groups .entry)) g) 0 rules) × (FoundIn (now (policy .entry)) r) ⌝ }
 {
     let mut i = 0u32;
@@ -60,7 +59,7 @@ pub fn first_failing(
         let n = wide(b[9]);
         let mut e = 0u32;
         while e < n {
-            if reaches(b, e as usize, i, roles, groups, heads, g) {
+            if reaches(b, e as usize, i, roles, groups, g) {
                 break 'rules Failing::At(i, e);
             }
             e += 1;
@@ -115,23 +114,12 @@ fn judged(
     groups: &mut [u32],
 ) -> Attempt
     requires { ⌜ (policyFault (now policy) ≡ none) × (rules ≡ ruleCount (now policy)) × (fitting ≡ fittingIn (policyOf (now policy)) (now q)) ⌝ }
-    requires { ⌜ (length (now q) ≡ 28) × (permittedBy (policyOf (now policy)) (now q) ≡ true) ⌝ }
+    requires { ⌜ (length (now q) ≡ 28) × (permittedBy (policyOf (now policy)) (now q) ≡ true) × (1024 ≤ length (now groups)) × ((h : ℕ) → h < 1021 → getD (now groups) h 0 ≡ 0) ⌝ }
     requires { ⌜ HasRoom (now table) n ⌝ }
-    ensures { λ r. ⌜ (r .whole ≡ true → VerdictIs (policyOf (now (policy .entry))) (recordsHere (now (table .entry)) n) (now (q .entry)) (faultOf (r .verdict .fault)) (r .verdict .judging)) × (6 * n + 6 ≤ length (now (groups .entry)) → r .whole ≡ true) ⌝ }
+    ensures { λ r. ⌜ (r .whole ≡ true → VerdictIs (policyOf (now (policy .entry))) (recordsHere (now (table .entry)) n) (now (q .entry)) (faultOf (r .verdict .fault)) (r .verdict .judging)) × (1024 + 7 * n + 7 ≤ length (now (groups .entry)) → r .whole ≡ true) ⌝ }
 {
     let mut active = [0u32; 32];
-    let mut heads = [0u16; 1024];
-    let seen = scan(
-        policy,
-        rules,
-        fitting,
-        q,
-        table,
-        n,
-        &mut active,
-        &mut heads,
-        groups,
-    );
+    let seen = scan(policy, rules, fitting, q, table, n, &mut active, groups);
     if !seen.whole {
         return Attempt {
             whole: false,
@@ -142,8 +130,8 @@ fn judged(
         };
     }
     let mask = judging(policy, rules, q, fitting, seen.opens);
-    let tally = take(seen.tally, mask, q, 0, &mut active, &mut heads, groups);
-    let failing = first_failing(policy, rules, mask, &active, &heads, groups, tally.groups);
+    let tally = take(seen.tally, mask, q, 0, &mut active, groups);
+    let failing = first_failing(policy, rules, mask, &active, groups, tally.groups);
     Attempt {
         whole: true,
         verdict: Verdict {
@@ -160,8 +148,8 @@ fn judged_few(policy: &[u8], rules: u32, fitting: u32, q: &[u8], table: &[u8], n
     requires { ⌜ HasRoom (now table) n ⌝ }
     ensures { λ r. ⌜ (r .whole ≡ true → VerdictIs (policyOf (now (policy .entry))) (recordsHere (now (table .entry)) n) (now (q .entry)) (faultOf (r .verdict .fault)) (r .verdict .judging)) ⌝ }
 {
-    let mut groups = [0u32; 366];
-    judged(policy, rules, fitting, q, table, n, &mut groups[0..366])
+    let mut groups = [0u32; 1451];
+    judged(policy, rules, fitting, q, table, n, &mut groups[0..1451])
 }
 
 // The same with room for a privilege of each record of the largest table, which is always enough.
@@ -171,8 +159,8 @@ fn judged_many(policy: &[u8], rules: u32, fitting: u32, q: &[u8], table: &[u8], 
     requires { ⌜ HasRoom (now table) n ⌝ }
     ensures { λ r. ⌜ VerdictIs (policyOf (now (policy .entry))) (recordsHere (now (table .entry)) n) (now (q .entry)) (faultOf (r .fault)) (r .judging) ⌝ }
 {
-    let mut groups = [0u32; 11526];
-    judged(policy, rules, fitting, q, table, n, &mut groups[0..11526]).verdict
+    let mut groups = [0u32; 14471];
+    judged(policy, rules, fitting, q, table, n, &mut groups[0..14471]).verdict
 }
 
 // Steps 1 to 3 over the n records of a table. A request that fits no rule is done after step 1.

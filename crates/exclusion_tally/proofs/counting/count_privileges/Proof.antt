@@ -11,10 +11,10 @@ use Rattle.exclusion_tally.proofs.counting.count_privileges.Statement.{
 use Rattle.exclusion_tally.proofs.counting.count_privileges.Tie as tie
 
 abbrev Inv-loop : tie.InvT-loop
-Inv-loop members n i groups heads g count₀ k₀ count k = (k ≤ n) × ((count ≡ sumBelow k (memberCounts members n i groups g)) × (count ≤ 8 * k))
+Inv-loop members n i groups g count₀ k₀ count k = (k ≤ n) × ((count ≡ sumBelow k (memberCounts members n i groups g)) × (count ≤ 8 * k))
 
 abbrev μ-loop : tie.MeasureT-loop
-μ-loop members n i groups heads g count₀ k₀ count k = n - k
+μ-loop members n i groups g count₀ k₀ count k = n - k
 
 loop-holds : tie.Need-loop-holds Inv-loop μ-loop
 unfolding sumBelow

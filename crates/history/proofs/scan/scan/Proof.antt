@@ -22,18 +22,21 @@ use Rattle.history.proofs.scan.scan.Statement.{statement}
 use Rattle.history.proofs.scan.scan.Tie as tie
 
 abbrev Inv-loop : tie.InvT-loop
-Inv-loop policy rules fitting q table n active₀ heads₀ groups₀ each who room opens₀ tally₀ k₀ active heads groups opens tally k =
+Inv-loop policy rules fitting q table n active₀ groups₀ each who room opens₀ tally₀ k₀ active groups opens tally k =
     (k ≤ n)
-    × ((tally .groups ≤ k) × ((length groups ≡ length groups₀) × (Ready (tally .rules) (tally .full) active heads groups (tally .groups) × Scanned (policyOf policy) q fitting opens active groups (tally .groups) (recordsHere table k))))
+    × ((tally .groups ≤ k) × ((length groups ≡ length groups₀) × (Ready (tally .rules) (tally .full) active groups (tally .groups) × Scanned (policyOf policy) q fitting opens active groups (tally .groups) (recordsHere table k))))
 
 abbrev μ-loop : tie.MeasureT-loop
-μ-loop policy rules fitting q table n active₀ heads₀ groups₀ each who room opens₀ tally₀ k₀ active heads groups opens tally k = n - k
+μ-loop policy rules fitting q table n active₀ groups₀ each who room opens₀ tally₀ k₀ active groups opens tally k = n - k
 
 each-of-requires : tie.Need-each-of-requires Inv-loop μ-loop
 each-of-requires c κs = search needs
 
 user-requires : tie.Need-user-requires Inv-loop μ-loop
 user-requires c κs = search needs
+
+sub-room : tie.Need-sub-room Inv-loop μ-loop
+sub-room c = search needs
 
 new-requires : tie.Need-new-requires Inv-loop μ-loop
 new-requires c κs = search needs
@@ -44,8 +47,8 @@ loop-holds c =
     let p = c .before .before .before .before .before .before .before .pre in
     let a = c .before .before .before .before .before .before .before .args in
     let new = c .new in
-    rw (new .ensures .0, new .ensures .1, new .ensures .2, p .1 .0 .1, p .1 .0 .2)
-    (omega arith, (omega arith, (refl, (ready-start (a .groups .now), scan-start (policyOf (a .policy .now)) (a .q .now) (a .fitting) (a .groups .now)))))
+    rw (new .ensures .0, new .ensures .1, new .ensures .2, p .1 .0 .2)
+    (omega arith, (omega arith, (refl, (ready-start (a .groups .now) (p .1 .0 .1) (p .1 .0 .3), scan-start (policyOf (a .policy .now)) (a .q .now) (a .fitting) (a .groups .now)))))
 
 record-place-requires : tie.Need-record-place-requires Inv-loop μ-loop
 record-place-requires c κs =
@@ -91,12 +94,12 @@ returns c =
 
 take-in-requires : tie.Need-take-in-requires Inv-loop μ-loop
 take-in-requires c κs =
-    let p = c .before .before .before .before .before .before .before .before .before .before .before .before .before .before .before .before .before .pre in
-    let a = c .before .before .before .before .before .before .before .before .before .before .before .before .before .before .before .before .before .args in
-    let l = c .before .before .before .before .before .before .before .before .before .loop in
+    let p = c .before .before .before .before .before .before .before .before .before .before .before .before .before .before .before .before .pre in
+    let a = c .before .before .before .before .before .before .before .before .before .before .before .before .before .before .before .before .args in
+    let l = c .before .before .before .before .before .before .before .before .loop in
     let few = room-few (a .table .now) (a .n) (p .1 .1) in
-    let record-place = c .before .before .before .before .before .before .before .record-place in
-    (l .inv .1 .1 .1 .0, (omega (arith, c .before .before .before .if2 .left, l .inv .1 .1 .0), omega (arith, few), omega (arith, record-place .ensures, place-inside (a .table .now) (a .n) (p .1 .1) (l .k) (c .before .before .before .before .before .before .before .before .loop-test .taken))))
+    let record-place = c .before .before .before .before .before .before .record-place in
+    (l .inv .1 .1 .1 .0, (omega (arith, c .before .before .if2 .left, l .inv .1 .1 .0), omega (arith, few), omega (arith, record-place .ensures, place-inside (a .table .now) (a .n) (p .1 .1) (l .k) (c .before .before .before .before .before .before .before .loop-test .taken))))
 
 add-k-2 : tie.Need-add-k-2 Inv-loop μ-loop
 add-k-2 c = search needs
@@ -106,14 +109,14 @@ loop-less-2 c = search needs
 
 loop-again-2 : tie.Need-loop-again-2 Inv-loop μ-loop
 loop-again-2 c =
-    let p = c .before .before .before .before .before .before .before .before .before .before .before .before .before .before .before .before .before .before .before .before .pre in
-    let a = c .before .before .before .before .before .before .before .before .before .before .before .before .before .before .before .before .before .before .before .before .args in
-    let l = c .before .before .before .before .before .before .before .before .before .before .before .before .loop in
+    let p = c .before .before .before .before .before .before .before .before .before .before .before .before .before .before .before .before .before .before .before .pre in
+    let a = c .before .before .before .before .before .before .before .before .before .before .before .before .before .before .before .before .before .before .before .args in
+    let l = c .before .before .before .before .before .before .before .before .before .before .before .loop in
     let take-in = c .before .before .take-in in
-    let more = c .before .before .before .before .before .before .before .before .before .before .before .loop-test .taken in
-    let who = c .before .before .before .before .before .before .before .before .before .before .before .before .before .before .user .ensures ∙ ap (λ (q : Request). userOf q) (take-all 28 (a .q .now) (omega arith)) in (
+    let more = c .before .before .before .before .before .before .before .before .before .before .loop-test .taken in
+    let who = c .before .before .before .before .before .before .before .before .before .before .before .before .before .user .ensures ∙ ap (λ (q : Request). userOf q) (take-all 28 (a .q .now) (omega arith)) in (
       omega (arith, more),
-      (omega (arith, take-in .ensures .most, l .inv .1 .0), (take-in .ensures .size ∙ l .inv .1 .1 .0, (take-in .ensures .ready, scan-record (policyOf (a .policy .now)) (a .q .now) (a .fitting) (a .table .now) (l .k) (c .before .before .before .before .before .before .before .before .before .before .record-place .result) (l .opens) (c .before .before .before .before .before .before .before .before .before .shared-at .result) _ _ _ _ _ _ _ _ _ _ (c .before .before .before .before .before .before .before .before .before .before .record-place .ensures) who (l .inv .1 .1 .1 .1) (stands (c .before .before .before .before .before .before .before .before .before)) (take-in .ensures)))),
+      (omega (arith, take-in .ensures .most, l .inv .1 .0), (take-in .ensures .size ∙ l .inv .1 .1 .0, (take-in .ensures .ready, scan-record (policyOf (a .policy .now)) (a .q .now) (a .fitting) (a .table .now) (l .k) (c .before .before .before .before .before .before .before .before .before .record-place .result) (l .opens) (c .before .before .before .before .before .before .before .before .shared-at .result) _ _ _ _ _ _ _ _ _ (c .before .before .before .before .before .before .before .before .before .record-place .ensures) who (l .inv .1 .1 .1 .1) (stands (c .before .before .before .before .before .before .before .before)) (take-in .ensures)))),
     )
 
 same-length-2 : tie.Need-same-length-2 Inv-loop μ-loop
@@ -128,11 +131,11 @@ returns-2 c =
       λ e.
           record {
             ready = l .inv .1 .1 .1 .0;
-            room = omega (arith, ltb-true (l .tally .groups) (length (a .groups .now) / 6) e, l .inv .1 .1 .0);
+            room = omega (arith, ltb-true (l .tally .groups) ((length (a .groups .now) - 1024) / 7) e, l .inv .1 .1 .0);
             few = omega (arith, few, l .inv .1 .0, l .inv .0);
             scanned = scan-all (policyOf (a .policy .now)) (a .q .now) (a .fitting) (a .table .now) (l .k) (a .n) (l .opens) _ _ (l .tally .groups) (omega arith) (l .inv .1 .1 .1 .1);
           },
-      λ h. lt-ltb (l .tally .groups) (length (a .groups .now) / 6) (omega (arith, h, l .inv .1 .0, l .inv .0)),
+      λ h. lt-ltb (l .tally .groups) ((length (a .groups .now) - 1024) / 7) (omega (arith, h, l .inv .1 .0, l .inv .0)),
     )
 
 pub scan-spec : {M : Type 1} → statement M
@@ -143,6 +146,7 @@ scan-spec =
     μ-loop
     each-of-requires
     user-requires
+    sub-room
     new-requires
     loop-holds
     record-place-requires

@@ -15,7 +15,7 @@ returns c =
     let p = c .before .before .before .before .pre in
     let a = c .before .before .before .before .args in
     let same-user = c .before .same-user in
-    taken-not (a .rules) (a .active .now) (a .groups .now) (a .tally .groups) _ _ _ (a .tally .rules) (a .tally .full) _ (p .0) (sym (same-user .ensures) ∙ not-true (same-user .result) (c .if1 .taken))
+    taken-not (a .rules) (a .active .now) (a .groups .now) (a .tally .groups) _ _ _ (a .tally .rules) (a .tally .full) (p .0) (sym (same-user .ensures) ∙ not-true (same-user .result) (c .if1 .taken))
 
 take-requires : tie.Need-take-requires
 take-requires c κs = search needs
@@ -25,8 +25,8 @@ same-length c = search needs
 
 returns-2 : tie.Need-returns-2
 returns-2 c =
-    let same-user = c .before .before .before .before .before .before .before .same-user in
-    rw (← same-user .ensures, not-false (same-user .result) (c .before .before .before .before .before .before .if1 .left)) (c .before .before .take .ensures)
+    let same-user = c .before .before .before .before .before .before .same-user in
+    rw (← same-user .ensures, not-false (same-user .result) (c .before .before .before .before .before .if1 .left)) (c .before .before .take .ensures)
 
 pub take-in-spec : {M : Type 1} → statement M
 take-in-spec = tie.close (tie.spec same-user-requires returns take-requires same-length returns-2)

@@ -24,16 +24,16 @@ abbrev whole : List ℕ → ℕ → ℕ → List ℕ → List ℕ → ℕ → Op
 whole policy rules judging active groups g = first (maskFails policy judging active groups g) 0 rules
 
 abbrev Inv-loop : tie.InvT-loop
-Inv-loop policy rules judging active heads groups g i at b roles n e₀ e = (e ≤ n) × (left (maskFails policy judging active groups g) (failsIn b i roles groups g) i rules e n ≡ whole policy rules judging active groups g)
+Inv-loop policy rules judging active groups g i at b roles n e₀ e = (e ≤ n) × (left (maskFails policy judging active groups g) (failsIn b i roles groups g) i rules e n ≡ whole policy rules judging active groups g)
 
 abbrev μ-loop : tie.MeasureT-loop
-μ-loop policy rules judging active heads groups g i at b roles n e₀ e = n - e
+μ-loop policy rules judging active groups g i at b roles n e₀ e = n - e
 
 abbrev Inv-rules : tie.InvT-rules
-Inv-rules policy rules judging active heads groups g i₀ i = (i ≤ rules) × (first (maskFails policy judging active groups g) i (rules - i) ≡ whole policy rules judging active groups g)
+Inv-rules policy rules judging active groups g i₀ i = (i ≤ rules) × (first (maskFails policy judging active groups g) i (rules - i) ≡ whole policy rules judging active groups g)
 
 abbrev μ-rules : tie.MeasureT-rules
-μ-rules policy rules judging active heads groups g i₀ i = rules - i
+μ-rules policy rules judging active groups g i₀ i = rules - i
 
 rules-holds : tie.Need-rules-holds Inv-loop μ-loop Inv-rules μ-rules
 rules-holds c = (omega arith, first-start _ _)

@@ -1,9 +1,8 @@
 -- `verdict::verdicts::judged_many` meets its contract: no table has more than 1920 records.
 -- Assumes nothing.
+use Rattle.verdict.proofs.Cut.{zeros-long, zeros-at}
 use Rattle.history.proofs.Standing.{room-few}
-use lib.ListN.{length-replicate, length-take}
 use native.Mathlib.Omega.{arith}
-use Prim.Native.Nat.{ℕ}
 use borrow.Author.Needs.{needs}
 use Rattle.verdict.proofs.verdicts.judged_many.Statement.{statement}
 use Rattle.verdict.proofs.verdicts.judged_many.Tie as tie
@@ -18,14 +17,16 @@ part-groups-end : tie.Need-part-groups-end
 part-groups-end c = search needs
 
 judged-requires : tie.Need-judged-requires
-judged-requires c κs = search needs
+judged-requires c κs =
+    let p = c .before .before .before .before .pre in
+    (p .0, ((p .1 .0 .0, p .1 .0 .1, omega (arith, zeros-long 14471), λ h l. zeros-at 14471 h (omega arith)), p .1 .1))
 
 returns : tie.Need-returns
 returns c =
     let p = c .before .before .before .before .before .before .before .pre in
     let a = c .before .before .before .before .before .before .before .args in
     let judged = c .before .before .judged in
-    judged .ensures .0 (judged .ensures .1 (simp (length-take, length-replicate {A = ℕ} 11526 0) (omega (arith, room-few (a .table .now) (a .n) (p .1 .1)))))
+    judged .ensures .0 (judged .ensures .1 (omega (arith, zeros-long 14471, room-few (a .table .now) (a .n) (p .1 .1))))
 
 pub judged-many-spec : {M : Type 1} → statement M
 judged-many-spec =

@@ -1,11 +1,9 @@
 -- `tally::tallies::Tally::add_privilege` meets its contract: a group is counted once more, or one is put behind the others.
 -- Assumes nothing.
-use Rattle.tally.specs.Code.{headOf}
-use Rattle.tally.proofs.Groups.{grown-raised, grown-behind}
+use Rattle.tally.proofs.Ways.{inside}
+use Rattle.tally.proofs.Growing.{grown-raised, grown-behind}
 use native.Mathlib.Omega.{arith}
-use mathlib.Core.Path.{refl, ap}
-use lib.ListN.{getD}
-use Prim.Native.Nat.{ℕ}
+use mathlib.Core.Path.{refl}
 use borrow.Author.Needs.{needs}
 use Rattle.tally.proofs.tallies.Tally.add_privilege.Statement.{statement}
 use Rattle.tally.proofs.tallies.Tally.add_privilege.Tie as tie
@@ -23,41 +21,34 @@ returns : tie.Need-returns
 returns c =
     let p = c .before .before .before .before .before .before .before .before .before .pre in
     let a = c .before .before .before .before .before .before .before .before .before .args in
-    let find = c .before .before .before .before .before .find in
+    let find = c .before .before .before .before .before .before .find in
     let if1 = c .before .before .before .before .if1 in
-    let raise = c .before .before .raise in
-    (refl, refl, grown-raised _ (a .groups .now) (a .heads .now) (a .rules) (find .result) (a .self .groups) (if1 .taken) (p .0) (raise .ensures) (a .done .0) (find .ensures .1 (if1 .taken)))
-
-chain-of-requires : tie.Need-chain-of-requires
-chain-of-requires c κs = search needs
-
-mul-previous : tie.Need-mul-previous
-mul-previous c = search needs
-
-element-copy-out-previous : tie.Need-element-copy-out-previous
-element-copy-out-previous c = search needs
-
-cast-previous : tie.Need-cast-previous
-cast-previous c =
-    let p = c .before .before .before .before .before .before .before .pre in
-    let a = c .before .before .before .before .before .before .before .args in
-    let most = rw (← c .before .chain-of .ensures .0) at (p .0 .start (headOf (a .done .0)) (omega arith) .most) in
-    omega (arith, most, p .0 .few)
+    (refl, refl, grown-raised _ (a .groups .now) (a .rules) (find .result .group) (a .self .groups) (if1 .taken) (p .0) (c .before .before .raise .ensures) (a .done .0) (find .ensures .1 (if1 .taken)))
 
 put-group-requires : tie.Need-put-group-requires
 put-group-requires c κs = search needs
 
-add-heads : tie.Need-add-heads
-add-heads c = search needs
+add-groups : tie.Need-add-groups
+add-groups c = search needs
 
-cast-heads : tie.Need-cast-heads
-cast-heads c = search needs
+cast-groups : tie.Need-cast-groups
+cast-groups c = search needs
 
-mul-heads : tie.Need-mul-heads
-mul-heads c = search needs
+mul-groups : tie.Need-mul-groups
+mul-groups c =
+    let p = c .before .before .before .before .before .before .before .before .before .pre in
+    let a = c .before .before .before .before .before .before .before .before .before .args in
+    let find = c .before .before .before .before .before .before .find in
+    let free = find .ensures .2 (omega (arith, find .ensures .0, c .before .before .before .before .if1 .left)) in
+    omega (arith, inside (a .groups .now) (a .self .groups) (p .0) (a .done .0) (free .turns) (find .result .at) (free .passed), c .before .before .put-group .ensures .size)
 
-element-write-heads : tie.Need-element-write-heads
-element-write-heads c = search needs
+slice-write-groups : tie.Need-slice-write-groups
+slice-write-groups c =
+    let p = c .before .before .before .before .before .before .before .before .before .pre in
+    let a = c .before .before .before .before .before .before .before .before .before .args in
+    let find = c .before .before .before .before .before .before .find in
+    let free = find .ensures .2 (omega (arith, find .ensures .0, c .before .before .before .before .if1 .left)) in
+    omega (arith, inside (a .groups .now) (a .self .groups) (p .0) (a .done .0) (free .turns) (find .result .at) (free .passed), c .before .before .put-group .ensures .size)
 
 add-self : tie.Need-add-self
 add-self c = search needs
@@ -67,11 +58,10 @@ same-length-2 c = search needs
 
 returns-2 : tie.Need-returns-2
 returns-2 c =
-    let p = c .before .before .before .before .before .before .before .before .before .before .before .pre in
-    let a = c .before .before .before .before .before .before .before .before .before .before .before .args in
-    let chain-of = c .before .before .before .before .before .chain-of in
-    let put-group = c .before .before .put-group in
-    (refl, refl, rw (chain-of .ensures .0) (grown-behind _ (a .groups .now) (a .heads .now) (a .rules) (a .done .0) _ (a .self .groups) (p .1 .1) (p .1 .0) (p .0) (put-group .ensures) (ap (λ (h : ℕ). getD (a .heads .now) h 0) (chain-of .ensures .0))))
+    let p = c .before .before .before .before .before .before .before .before .before .pre in
+    let a = c .before .before .before .before .before .before .before .before .before .args in
+    let find = c .before .before .before .before .before .before .find in
+    (refl, refl, grown-behind _ (a .groups .now) (a .rules) (a .done .0) (a .self .groups) (find .result .at) (p .1 .1) (p .1 .0) (p .0) (find .ensures .2 (omega (arith, find .ensures .0, c .before .before .before .before .if1 .left))) (c .before .before .put-group .ensures))
 
 pub add-privilege-spec : {M : Type 1} → statement M
 add-privilege-spec =
@@ -81,15 +71,11 @@ add-privilege-spec =
     raise-requires
     same-length
     returns
-    chain-of-requires
-    mul-previous
-    element-copy-out-previous
-    cast-previous
     put-group-requires
-    add-heads
-    cast-heads
-    mul-heads
-    element-write-heads
+    add-groups
+    cast-groups
+    mul-groups
+    slice-write-groups
     add-self
     same-length-2
     returns-2)

@@ -1,6 +1,6 @@
 -- `tally::tallies::Tally::add_roles` meets its contract: all roles but those left have been gone through.
 -- Assumes nothing.
-use Rattle.tally.proofs.Roles.{Passed, or-second, full-still, passed-full, passed-more, passed-all}
+use Rattle.tally.proofs.Roles.{Through, or-second, full-still, through-full, through-more, through-all}
 use Rattle.words.proofs.Lowest.{Lowest, lowest}
 use lib.Bits.{bitAnd, bitOr, and-le-l, and-le-r}
 use lib.Count.{trailingZeros}
@@ -12,7 +12,7 @@ use Rattle.tally.proofs.tallies.Tally.add_roles.Statement.{statement}
 use Rattle.tally.proofs.tallies.Tally.add_roles.Tie as tie
 
 abbrev Inv-loop : tie.InvT-loop
-Inv-loop self₀ rules roles active₀ ever rest₀ self active rest = (rest < 4294967296) × ((self .groups ≡ self₀ .groups) × ((self .rules ≡ ever) × Passed rules roles ever (self .full) active₀ active rest))
+Inv-loop self₀ rules roles active₀ ever rest₀ self active rest = (rest < 4294967296) × ((self .groups ≡ self₀ .groups) × ((self .rules ≡ ever) × Through rules roles ever (self .full) active₀ active rest))
 
 abbrev μ-loop : tie.MeasureT-loop
 μ-loop self₀ rules roles active₀ ever rest₀ self active rest = rest
@@ -37,7 +37,7 @@ loop-holds c =
     let still-full = c .before .still-full in
     let ever = bitOr (a .self .rules) (a .rules) in
     let isFull = full-still (a .self .rules) ever (a .self .full) (still-full .result) (a .active .now) (p .1) (still-full .ensures) in
-    (omega (arith, without .ensures), (refl, (refl, passed-full (a .rules) (a .roles) ever (still-full .result) (a .active .now) (without .result) (p .0) isFull (or-second (a .self .rules) (a .rules)) (without .ensures))))
+    (omega (arith, without .ensures), (refl, (refl, through-full (a .rules) (a .roles) ever (still-full .result) (a .active .now) (without .result) (p .0) isFull (or-second (a .self .rules) (a .rules)) (without .ensures))))
 
 cast-all : tie.Need-cast-all Inv-loop μ-loop
 cast-all c = omega (arith, low-bit c .0)
@@ -74,7 +74,7 @@ loop-again c =
     let low = low-bit (c .before .before .before) in
     let ever = bitOr (a .self .rules) (a .rules) in (
       omega (arith, and-le-l (l .rest) (l .rest - 1)),
-      (l .inv .1 .0, (l .inv .1 .1 .0, passed-more (a .rules) (a .roles) ever (l .self .full) (a .active .now) (l .active) (l .rest) _ _ _ (l .inv .1 .1 .1) (low .1) (low .0) refl _ (flag .result) refl (flag .ensures))),
+      (l .inv .1 .0, (l .inv .1 .1 .0, through-more (a .rules) (a .roles) ever (l .self .full) (a .active .now) (l .active) (l .rest) _ _ _ (l .inv .1 .1 .1) (low .1) (low .0) refl _ (flag .result) refl (flag .ensures))),
     )
 
 returns : tie.Need-returns Inv-loop μ-loop
@@ -82,7 +82,7 @@ returns c =
     let a = c .before .before .before .before .before .args in
     let l = c .before .loop in
     let ever = bitOr (a .self .rules) (a .rules) in
-    (l .inv .1 .0, rw (l .inv .1 .1 .0) (passed-all (a .rules) (a .roles) ever (l .self .full) (a .active .now) _ (l .rest) (c .loop-test .left) (l .inv .1 .1 .1)))
+    (l .inv .1 .0, rw (l .inv .1 .1 .0) (through-all (a .rules) (a .roles) ever (l .self .full) (a .active .now) _ (l .rest) (c .loop-test .left) (l .inv .1 .1 .1)))
 
 pub add-roles-spec : {M : Type 1} → statement M
 add-roles-spec =

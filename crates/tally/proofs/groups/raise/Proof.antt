@@ -1,11 +1,11 @@
--- `tally::chains::raise` meets its contract.
+-- `tally::groups::raise` meets its contract.
 -- Assumes nothing.
-use Rattle.tally.proofs.Groups.{raised-written}
+use Rattle.tally.proofs.Growing.{raised-written}
 use lib.ListN.{length-set}
 use native.Mathlib.Omega.{arith}
 use borrow.Author.Needs.{needs}
-use Rattle.tally.proofs.chains.raise.Statement.{statement}
-use Rattle.tally.proofs.chains.raise.Tie as tie
+use Rattle.tally.proofs.groups.raise.Statement.{statement}
+use Rattle.tally.proofs.groups.raise.Tie as tie
 
 count-at-requires : tie.Need-count-at-requires
 count-at-requires c κs = search needs
@@ -19,6 +19,9 @@ mul-groups c = search needs
 add-groups : tie.Need-add-groups
 add-groups c = search needs
 
+add-groups-2 : tie.Need-add-groups-2
+add-groups-2 c = search needs
+
 mul-groups-2 : tie.Need-mul-groups-2
 mul-groups-2 c = search needs
 
@@ -28,8 +31,11 @@ slice-write-groups c = search needs
 mul-groups-3 : tie.Need-mul-groups-3
 mul-groups-3 c = search needs
 
-add-groups-2 : tie.Need-add-groups-2
-add-groups-2 c = search needs
+add-groups-3 : tie.Need-add-groups-3
+add-groups-3 c = search needs
+
+add-groups-4 : tie.Need-add-groups-4
+add-groups-4 c = search needs
 
 mul-groups-4 : tie.Need-mul-groups-4
 mul-groups-4 c = search needs
@@ -40,8 +46,11 @@ slice-write-groups-2 c = simp length-set (omega arith)
 mul-groups-5 : tie.Need-mul-groups-5
 mul-groups-5 c = search needs
 
-add-groups-3 : tie.Need-add-groups-3
-add-groups-3 c = search needs
+add-groups-5 : tie.Need-add-groups-5
+add-groups-5 c = search needs
+
+add-groups-6 : tie.Need-add-groups-6
+add-groups-6 c = search needs
 
 mul-groups-6 : tie.Need-mul-groups-6
 mul-groups-6 c = search needs
@@ -52,8 +61,11 @@ slice-write-groups-3 c = simp length-set (omega arith)
 mul-groups-7 : tie.Need-mul-groups-7
 mul-groups-7 c = search needs
 
-add-groups-4 : tie.Need-add-groups-4
-add-groups-4 c = search needs
+add-groups-7 : tie.Need-add-groups-7
+add-groups-7 c = search needs
+
+add-groups-8 : tie.Need-add-groups-8
+add-groups-8 c = search needs
 
 mul-groups-8 : tie.Need-mul-groups-8
 mul-groups-8 c = search needs
@@ -79,18 +91,22 @@ raise-spec =
     add-requires
     mul-groups
     add-groups
+    add-groups-2
     mul-groups-2
     slice-write-groups
     mul-groups-3
-    add-groups-2
+    add-groups-3
+    add-groups-4
     mul-groups-4
     slice-write-groups-2
     mul-groups-5
-    add-groups-3
+    add-groups-5
+    add-groups-6
     mul-groups-6
     slice-write-groups-3
     mul-groups-7
-    add-groups-4
+    add-groups-7
+    add-groups-8
     mul-groups-8
     slice-write-groups-4
     same-length
