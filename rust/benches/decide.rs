@@ -30,6 +30,7 @@ fn main() {
         roles: |_| 0x7F,
         operation: |i| 1 + i as u16 % DONE,
         marks: |_| u32::MAX,
+        privilege,
     };
     let worst = Worst::new(&alike);
     // No two records have the same active roles, privilege or marks.
@@ -40,16 +41,26 @@ fn main() {
     });
     let privileges = Worst::new(&Kind {
         name: "privileges",
-        operation: |i| match i as u16 {
-            i @ 0..DONE => 1 + i,
-            i => 10_000 + i,
-        },
+        operation: other,
         ..alike
     });
     // Here rule 1 has no mark at all, so that no role was ever active under all rules.
     let marks = Worst::new(&Kind {
         name: "marks",
         marks: |i| 0xFFFF_FFFE ^ (i as u32) << 8,
+        ..alike
+    });
+    // No two the same privilege, and all that there are begin their way at the same head, with the same six turns.
+    let numbers = Worst::new(&Kind {
+        name: "numbers",
+        operation: other,
+        privilege: |operation| {
+            let word = 66_366 + 1021 * 64 * u32::from(operation);
+            Privilege {
+                operation: word as u16,
+                target: (word >> 16) as u16,
+            }
+        },
         ..alike
     });
     println!("Median time of one call in microseconds; the last three columns are ratios.\n");
@@ -60,6 +71,7 @@ fn main() {
         roles.workloads(),
         privileges.workloads(),
         marks.workloads(),
+        numbers.workloads(),
     ];
     // `cargo bench --offline -- WORD` measures only the workloads that have the word in their name.
     let word = std::env::args().skip(1).find(|a| !a.starts_with("--"));
@@ -74,6 +86,14 @@ fn main() {
     heading();
     for workload in typical.growth() {
         row(&workload);
+    }
+}
+
+/// The operation of record i, where all are different.
+fn other(i: usize) -> u16 {
+    match i as u16 {
+        i @ 0..DONE => 1 + i,
+        i => 10_000 + i,
     }
 }
 
@@ -260,10 +280,14 @@ fn level(kind: u16, mark: Mark) -> Level {
 }
 
 fn request(user: u32, role: u16, operation: u16, context: &[(u16, u16)]) -> Vec<u8> {
+    request_of(user, role, privilege(operation), context)
+}
+
+fn request_of(user: u32, role: u16, privilege: Privilege, context: &[(u16, u16)]) -> Vec<u8> {
     let request = Request {
         user,
         roles: 1 << (role - 1),
-        privilege: privilege(operation),
+        privilege,
         context: context.to_vec(),
     };
     write_request(&request).to_vec()
@@ -484,6 +508,7 @@ impl Typical {
 /// another context and marked for every rule.
 struct Worst {
     name: &'static str,
+    privilege: fn(u16) -> Privilege,
     policy: Vec<u8>,
     table: Vec<u8>,
 }
@@ -497,15 +522,22 @@ struct Kind {
     roles: fn(usize) -> u32,
     operation: fn(usize) -> u16,
     marks: fn(usize) -> u32,
+    /// Which privilege an operation stands for.
+    privilege: fn(u16) -> Privilege,
 }
 
 impl Worst {
     fn new(kind: &Kind) -> Worst {
+        let privilege = kind.privilege;
+        let privileges = |operations: &[u16]| Exclusion {
+            m: 8,
+            members: Members::Privileges(operations.iter().map(|&o| privilege(o)).collect()),
+        };
         let exclusion = |x: u16| {
             if x.is_multiple_of(2) {
                 let mut listed: Vec<u16> = (1..=7).map(|i| 7 * x + i).collect();
                 listed.push(1_000 + x);
-                privileges(8, &listed)
+                privileges(&listed)
             } else {
                 roles(8, &[1, 2, 3, 4, 5, 6, 7, 8 + x])
             }
@@ -518,7 +550,7 @@ impl Worst {
         };
         let mut rules = vec![rule; 32];
         // The very last exclusion is one that a request can fail by.
-        rules[31].exclusions[7] = privileges(8, &[1, 2, 3, 4, 5, 6, 7, 3_000]);
+        rules[31].exclusions[7] = privileges(&[1, 2, 3, 4, 5, 6, 7, 3_000]);
         let never = Permission {
             role: 32,
             privilege: privilege(60_000),
@@ -546,6 +578,7 @@ impl Worst {
         let table = write_table(sums(&policy), &records, 128);
         Worst {
             name: kind.name,
+            privilege,
             policy,
             table,
         }
@@ -564,7 +597,7 @@ impl Worst {
             call,
             policy: self.policy.clone(),
             table: self.table.clone(),
-            request: request(7, 1, operation, &context),
+            request: request_of(7, 1, (self.privilege)(operation), &context),
             expected,
         };
         let (all, none) = (places(128), Reply::refuse(31, 0, 0));
