@@ -13,8 +13,10 @@ mod independent;
 mod support;
 
 use independent::images::*;
+use independent::judge::fits;
 use independent::register::Register;
 use independent::Reply;
+use support::busy::{Busy, Pool, MET};
 use support::chance::Chance;
 use support::compare::*;
 use support::world::{request_bytes, World};
@@ -200,6 +202,44 @@ fn strange_tables() {
     must_have_seen_in_lists(&comparing.seen, 1_000);
     let large = strange_large_table;
     until(&mut comparing, "strange large tables", SEED, 500, large);
+    println!("{}", comparing.seen);
+}
+
+// ---------------------------------------------------------------------------------------------
+// Tables in which few users have done much
+
+fn busy_table(comparing: &mut Comparing, chance: &mut Chance) {
+    let pool = chance.pick(&Pool::ALL);
+    let busy = Busy::new(chance, pool);
+    let (policy, stamp) = (&busy.image, busy.stamp());
+    let accepted = Reply::accept(busy.policy.rules.len());
+    assert_eq!(comparing.check_policy(policy), accepted);
+    let mut table = write_table(stamp, &busy.records, busy.blocks);
+    let accepted = Reply::accept(busy.records.len());
+    assert_eq!(comparing.check_table(policy, &table), accepted);
+    for _ in 0..chance.from(5, 25) {
+        let request = busy.request(chance);
+        let records = read_table(&busy.policy, stamp, &table, fits);
+        for what in busy.meets(&records.expect("a good table"), &request) {
+            comparing.seen.note(what);
+        }
+        comparing.seen.note(pool.name());
+        comparing.decide(policy, &mut table, &write_request(&request));
+    }
+}
+
+fn must_have_seen_in_busy_tables(seen: &Seen, times: usize) {
+    seen.must_refuse("decide", &[32, 33, 34], 20 * times);
+    seen.must_grant(&KINDS, times);
+    seen.must_note(&Pool::ALL.map(Pool::name), 40 * times);
+    seen.must_note(&MET, 2 * times);
+}
+
+#[test]
+fn many_privileges() {
+    let mut comparing = Comparing::new();
+    until(&mut comparing, "busy tables", SEED, 25_000, busy_table);
+    must_have_seen_in_busy_tables(&comparing.seen, 50);
     println!("{}", comparing.seen);
 }
 
@@ -438,12 +478,13 @@ fn long() {
     let seed = number_from("SOD_SEED", SEED + 1);
     let times = number_from("SOD_TIMES", 1) as usize;
     type Part = (&'static str, usize, fn(&mut Comparing, &mut Chance));
-    let parts: [Part; 7] = [
+    let parts: [Part; 8] = [
         ("small lists", 7_000_000, small_list),
         ("middling lists", 100_000, middling_list),
         ("large lists", 15_000, large_list),
         ("strange tables", 2_000_000, strange_table),
         ("strange large tables", 10_000, strange_large_table),
+        ("busy tables", 150_000, busy_table),
         ("damaged images", 1_000_000, damaged_images),
         ("every byte", 500_000, every_byte),
     ];
@@ -456,6 +497,7 @@ fn long() {
         match part {
             "small lists" => must_have_seen_in_lists(&comparing.seen, 10_000 * times),
             "strange tables" => must_have_seen_in_lists(&comparing.seen, 5_000 * times),
+            "busy tables" => must_have_seen_in_busy_tables(&comparing.seen, 250 * times),
             "damaged images" => must_have_seen_in_damaged_images(&comparing.seen, 3_000),
             _ => {}
         }

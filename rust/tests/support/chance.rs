@@ -35,6 +35,12 @@ impl Chance {
         list[self.below(list.len())].clone()
     }
 
+    pub fn shuffle<T>(&mut self, list: &mut [T]) {
+        for i in 1..list.len() {
+            list.swap(i, self.from(0, i));
+        }
+    }
+
     /// So many different numbers from 1 to `last`: some from its beginning, some from its end, some
     /// from anywhere.
     pub fn different(&mut self, count: usize, last: usize) -> Vec<usize> {

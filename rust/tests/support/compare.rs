@@ -6,12 +6,13 @@ use hastovimen::raw;
 use std::collections::BTreeMap;
 use std::fmt;
 
-/// How often each answer was seen.
+/// How often each answer was seen, and whatever else a test takes down.
 #[derive(Default)]
 pub struct Seen {
     pub decisions: usize,
     refusals: BTreeMap<(&'static str, u32), usize>,
     grants: BTreeMap<Kind, usize>,
+    notes: BTreeMap<&'static str, usize>,
 }
 
 /// A kind of grant: whether it recorded, removed some, and left some.
@@ -43,6 +44,11 @@ impl Seen {
         self.decisions += usize::from(call == "decide");
     }
 
+    /// Takes down that a decision met with this.
+    pub fn note(&mut self, what: &'static str) {
+        *self.notes.entry(what).or_default() += 1;
+    }
+
     pub fn refused(&self, call: &'static str, number: u32) -> usize {
         self.refusals.get(&(call, number)).copied().unwrap_or(0)
     }
@@ -65,6 +71,14 @@ impl Seen {
             );
         }
     }
+
+    /// Fails unless each of these was taken down so many times.
+    pub fn must_note(&self, notes: &[&'static str], times: usize) {
+        for what in notes {
+            let seen = self.notes.get(what).copied().unwrap_or(0);
+            assert!(seen >= times, "{what}: {seen} times\n{self}");
+        }
+    }
 }
 
 impl fmt::Display for Seen {
@@ -81,6 +95,9 @@ impl fmt::Display for Seen {
         }
         for ((call, number), times) in &self.refusals {
             writeln!(f, "  {call} refused by {number}: {times}")?;
+        }
+        for (what, times) in &self.notes {
+            writeln!(f, "  {what}: {times}")?;
         }
         Ok(())
     }

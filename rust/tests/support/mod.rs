@@ -3,6 +3,7 @@
 // Each test takes in this module whole and uses a part of it.
 #![allow(dead_code)]
 
+pub mod busy;
 pub mod chance;
 pub mod compare;
 pub mod lent;
