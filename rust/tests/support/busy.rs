@@ -18,29 +18,29 @@ use std::collections::BTreeSet;
 pub enum Pool {
     /// Thousands, operations and targets both varying.
     Thousands,
-    /// Several hundred, all of which the engine looks for in one chain.
-    OneChain,
+    /// Several hundred, all of which the engine looks for in one tree.
+    OneTree,
     /// 55 to 66, where the engine has room for 60 at first.
     Sixty,
     /// Three, each done 10 to 20 times, where the engine counts up to 15.
     Three,
 }
 
-/// The engine's chains.
-const CHAINS: u32 = 1021;
+/// The engine's trees, by the remainder of a privilege's word.
+const TREES: u32 = 1021;
 
-fn chain_of(privilege: Privilege) -> usize {
+fn tree_of(privilege: Privilege) -> usize {
     let word = u32::from(privilege.operation) | u32::from(privilege.target) << 16;
-    (word % CHAINS) as usize
+    (word % TREES) as usize
 }
 
 impl Pool {
-    pub const ALL: [Pool; 4] = [Pool::Thousands, Pool::OneChain, Pool::Sixty, Pool::Three];
+    pub const ALL: [Pool; 4] = [Pool::Thousands, Pool::OneTree, Pool::Sixty, Pool::Three];
 
     pub fn name(self) -> &'static str {
         match self {
             Pool::Thousands => "pool of thousands",
-            Pool::OneChain => "pool of one chain",
+            Pool::OneTree => "pool of one tree",
             Pool::Sixty => "pool of about sixty",
             Pool::Three => "pool of three",
         }
@@ -59,21 +59,21 @@ impl Pool {
     fn privileges(self, chance: &mut Chance) -> Vec<Privilege> {
         let count = match self {
             Pool::Thousands => chance.from(2_000, 4_000),
-            Pool::OneChain => chance.from(200, 900),
+            Pool::OneTree => chance.from(200, 900),
             Pool::Sixty => chance.from(55, 66),
             Pool::Three => 3,
         };
-        let one_chain = match self {
+        let one_tree = match self {
             Pool::Thousands => false,
-            Pool::OneChain => true,
+            Pool::OneTree => true,
             Pool::Sixty | Pool::Three => chance.percent(25),
         };
-        let any = chance.below(CHAINS as usize) as u32;
-        let chain = chance.pick(&[0, CHAINS - 1, any, any]);
+        let any = chance.below(TREES as usize) as u32;
+        let tree = chance.pick(&[0, TREES - 1, any, any]);
         let (mut all, mut different) = (vec![], BTreeSet::new());
         while all.len() < count {
-            let privilege = if one_chain {
-                privilege_in(chance, chain)
+            let privilege = if one_tree {
+                privilege_in(chance, tree)
             } else {
                 any_privilege(chance)
             };
@@ -94,11 +94,11 @@ fn any_privilege(chance: &mut Chance) -> Privilege {
     }
 }
 
-fn privilege_in(chance: &mut Chance, chain: u32) -> Privilege {
+fn privilege_in(chance: &mut Chance, tree: u32) -> Privilege {
     let target = chance.from(1, 65535) as u32;
-    let lowest = (chain + CHAINS - (target << 16) % CHAINS) % CHAINS;
+    let lowest = (tree + TREES - (target << 16) % TREES) % TREES;
     // Never the lowest, which may be 0.
-    let operation = lowest + CHAINS * chance.from(1, 63) as u32;
+    let operation = lowest + TREES * chance.from(1, 63) as u32;
     Privilege {
         operation: operation as u16,
         target: target as u16,
@@ -466,14 +466,14 @@ impl Busy {
         (0..n).map(|_| chance.pick(&different)).collect()
     }
 
-    /// A privilege that was not done, mostly: one of the pool, one in the chain of such a one, or any.
+    /// A privilege that was not done, mostly: one of the pool, one in the tree of such a one, or any.
     fn new_privilege(&self, chance: &mut Chance, run: &[Request]) -> Privilege {
         let one = chance.pick(&self.privileges);
         if run.iter().all(|done| done.privilege != one) && chance.percent(60) {
             return one;
         }
         if chance.percent(50) {
-            privilege_in(chance, chain_of(one) as u32)
+            privilege_in(chance, tree_of(one) as u32)
         } else {
             any_privilege(chance)
         }
@@ -597,7 +597,7 @@ pub const MET: [&str; 11] = [
     "61 privileges",
     "62 privileges or more",
     "1,920 privileges",
-    "100 privileges in a chain",
+    "100 privileges in a tree",
     "a role known under all rules so far under a new one",
     "a member done 15 times",
     "a member done 16 times",
@@ -615,11 +615,11 @@ fn meets_privileges(counted: &[Counted], met: &mut BTreeSet<&'static str>) {
         1_920 => Some(MET[3]),
         _ => None,
     });
-    let mut chains = [0; CHAINS as usize];
+    let mut trees = [0; TREES as usize];
     for privilege in different {
-        chains[chain_of(privilege)] += 1;
+        trees[tree_of(privilege)] += 1;
     }
-    met.extend(chains.iter().any(|&long| long >= 100).then_some(MET[4]));
+    met.extend(trees.iter().any(|&long| long >= 100).then_some(MET[4]));
 }
 
 fn meets_roles(counted: &[Counted], met: &mut BTreeSet<&'static str>) {
