@@ -1,3 +1,4 @@
+pub mod Within
 pub mod Fitting
 pub mod Here
 pub mod TableBlock

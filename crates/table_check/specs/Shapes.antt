@@ -47,6 +47,10 @@ shapeFits shapes low high i =
     eqb (bitAnd low (getD shapes (4 * i + 2) 0)) (getD shapes (4 * i) 0)
     && eqb (bitAnd high (getD shapes (4 * i + 3) 0)) (getD shapes (4 * i + 1) 0)
 
+-- each mark that is set is for a rule that there is
+unfoldable pub marksWithin : ℕ → ℕ → Bool
+marksWithin rules marks = allBelow mostRules (λ i. not (bit i marks) || ltb i rules)
+
 -- there is a rule of index i, and its shape fits
 unfoldable pub markFits : List ℕ → ℕ → ℕ → ℕ → ℕ → Bool
 markFits shapes rules low high i = ltb i rules && shapeFits shapes low high i

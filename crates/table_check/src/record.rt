@@ -6,8 +6,8 @@ ghost use Rattle.words.specs.Bytes.{u32At};
 ghost use Rattle.format.specs.Policy.{Policy};
 ghost use Rattle.format.specs.Table.{goodRecord};
 ghost use Rattle.format.specs.Place.{recordFrom};
-ghost use Rattle.table_check.specs.Shapes.{Shapes, marksFit};
-use crate::shapes::mark_fits;
+ghost use Rattle.table_check.specs.Shapes.{Shapes, marksWithin, marksFit};
+use crate::shapes::shape_fits;
 use request_check::request::good_request;
 use words::field::u32_at;
 
@@ -19,13 +19,23 @@ fn pair_at(s: &[u8], at: usize) -> u64
     (u32_at(s, at) as u64) + 4294967296 * (u32_at(s, at + 4) as u64)
 }
 
+// Each mark is for a rule that there is: asked of the highest, so that the loop over them need not.
+fn marks_within(marks: u32, rules: u32) -> bool
+    ensures { λ r. ⌜ r ≡ marksWithin rules marks ⌝ }
+{
+    32 - u32::leading_zeros(marks) <= rules
+}
+
 // The marks that are set, from the lowest on.
 fn marks_fit(shapes: &[u64; 128], rules: u32, low: u64, high: u64, marks: u32) -> bool
     ensures { λ r. ⌜ r ≡ marksFit (now (shapes .entry)) rules low high marks ⌝ }
 {
+    if !marks_within(marks, rules) {
+        return false;
+    }
     let mut rest = marks;
     while rest != 0 {
-        if !mark_fits(shapes, rules, low, high, u32::trailing_zeros(rest)) {
+        if !shape_fits(shapes, low, high, u32::trailing_zeros(rest)) {
             return false;
         }
         rest = rest & (rest - 1);

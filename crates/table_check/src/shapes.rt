@@ -5,7 +5,7 @@ ghost use Prim.Native.Nat.{_<_};
 ghost use lib.ListN.{length};
 ghost use Rattle.format.specs.Rule.{ruleAt};
 ghost use Rattle.format.specs.Policy.{policyFault, policyOf, ruleCount};
-ghost use Rattle.table_check.specs.Shapes.{levelWant, levelMask, shapeWord, Shapes, markFits};
+ghost use Rattle.table_check.specs.Shapes.{levelWant, levelMask, shapeWord, Shapes, shapeFits};
 use words::field::u16_at;
 use words::field::wide;
 
@@ -56,14 +56,11 @@ pub fn shapes_of(policy: &[u8], rules: u32, out: &mut [u64; 128])
     }
 }
 
-// The policy has the rule of an index, and the levels of a context, two in each number, are as its shape wants them.
-pub fn mark_fits(shapes: &[u64; 128], rules: u32, low: u64, high: u64, i: u32) -> bool
+// The levels of a context, two in each number, are as the shape of the rule of an index wants them.
+pub fn shape_fits(shapes: &[u64; 128], low: u64, high: u64, i: u32) -> bool
     requires { ⌜ i < 32 ⌝ }
-    ensures { λ r. ⌜ r ≡ markFits (now (shapes .entry)) rules low high i ⌝ }
+    ensures { λ r. ⌜ r ≡ shapeFits (now (shapes .entry)) low high i ⌝ }
 {
-    if rules <= i {
-        return false;
-    }
     let at = 4 * (i as usize);
     (low & shapes[at + 2] == shapes[at]) & (high & shapes[at + 3] == shapes[at + 1])
 }

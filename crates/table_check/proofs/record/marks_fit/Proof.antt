@@ -3,39 +3,52 @@
 use Prim.Native.Nat.{_-_, _<_}
 use native.Mathlib.Omega.{arith}
 use mathlib.Core.Path.{_≡_, refl, sym, _∙_}
+use mathlib.Core.Bool.{true, _&&_, and-false}
 use lib.Bits.{bitAnd, and-le-l, and-le-r}
 use lib.Count.{trailingZeros}
 use borrow.Author.Tests.{not-true, not-false}
+use Rattle.words.proofs.Lowest.{Lowest, lowest, allSet, none-set, lowest-fails, lowest-more}
+use Rattle.table_check.specs.Shapes.{shapeFits, marksWithin}
+use Rattle.table_check.proofs.Within.{fits-split}
 use borrow.Author.Needs.{needs}
-use Rattle.words.proofs.Lowest.{Lowest, lowest, none-set, lowest-fails, lowest-more}
-use Rattle.table_check.specs.Shapes.{markFits, marksFit}
 use Rattle.table_check.proofs.record.marks_fit.Statement.{statement}
 use Rattle.table_check.proofs.record.marks_fit.Tie as tie
 
 abbrev Inv-loop : tie.InvT-loop
-Inv-loop shapes rules low high marks rest₀ rest = (rest < 4294967296) × (marksFit shapes rules low high rest ≡ marksFit shapes rules low high marks)
+Inv-loop shapes rules low high marks rest₀ rest = (rest < 4294967296) × (allSet 32 rest (shapeFits shapes low high) ≡ allSet 32 marks (shapeFits shapes low high))
 
 abbrev μ-loop : tie.MeasureT-loop
 μ-loop shapes rules low high marks rest₀ rest = rest
 
--- the mark that is looked at is the lowest that is left
-low-bit : (c : tie.In-loop Inv-loop μ-loop) →
-    let x = c .before .loop .rest in (trailingZeros 32 x < 32) × Lowest x (trailingZeros 32 x) (bitAnd x (x - 1))
-low-bit c = lowest 32 (c .before .loop .rest) (c .loop-test .taken) (c .before .loop .inv .0)
+marks-within-requires : tie.Need-marks-within-requires Inv-loop μ-loop
+marks-within-requires c κs = search needs
+
+returns : tie.Need-returns Inv-loop μ-loop
+returns c =
+    let a = c .before .before .args in
+    let within = c .before .marks-within in
+    rw (fits-split (a .shapes .now) (a .rules) (a .low) (a .high) (a .marks), ← within .ensures, not-true (within .result) (c .if1 .taken))
 
 loop-holds : tie.Need-loop-holds Inv-loop μ-loop
 loop-holds c = (omega arith, refl)
 
-mark-fits-requires : tie.Need-mark-fits-requires Inv-loop μ-loop
-mark-fits-requires c κs = low-bit c .0
+-- the mark that is looked at is the lowest that is left
+low-bit :
+    (c : tie.In-loop Inv-loop μ-loop)
+    → let x = c .before .loop .rest in (trailingZeros 32 x < 32) × Lowest x (trailingZeros 32 x) (bitAnd x (x - 1))
+low-bit c = lowest 32 (c .before .loop .rest) (c .loop-test .taken) (c .before .loop .inv .0)
 
-returns : tie.Need-returns Inv-loop μ-loop
-unfolding marksFit
-returns c =
-    let a = c .before .before .before .before .args in
+shape-fits-requires : tie.Need-shape-fits-requires Inv-loop μ-loop
+shape-fits-requires c κs = low-bit c .0
+
+returns-2 : tie.Need-returns-2 Inv-loop μ-loop
+returns-2 c =
+    let a = c .before .before .before .before .before .before .args in
     let l = c .before .before .before .loop in
-    sym (sym (l .inv .1) ∙ lowest-fails 32 (l .rest) _ _ (markFits (a .shapes .now) (a .rules) (a .low) (a .high)) (low-bit (c .before .before) .1) (low-bit (c .before .before) .0)
-    (sym (c .before .mark-fits .ensures) ∙ not-true (c .before .mark-fits .result) (c .if1 .taken)))
+    let shape-fits = c .before .shape-fits in
+    let low = low-bit (c .before .before) in
+    let fails = lowest-fails 32 (l .rest) _ _ (shapeFits (a .shapes .now) (a .low) (a .high)) (low .1) (low .0) (sym (shape-fits .ensures) ∙ not-true (shape-fits .result) (c .if2 .taken)) in
+    rw (fits-split (a .shapes .now) (a .rules) (a .low) (a .high) (a .marks), ← l .inv .1, fails) (sym (and-false (marksWithin (a .rules) (a .marks))))
 
 sub-rest : tie.Need-sub-rest Inv-loop μ-loop
 sub-rest c = search needs
@@ -44,21 +57,21 @@ loop-less : tie.Need-loop-less Inv-loop μ-loop
 loop-less c = let l = c .before .before .before .loop in omega (arith, and-le-r (l .rest) (l .rest - 1))
 
 loop-again : tie.Need-loop-again Inv-loop μ-loop
-unfolding marksFit
 loop-again c =
-    let a = c .before .before .before .before .args in
-    let l = c .before .before .before .loop in (
+    let a = c .before .before .before .before .before .before .args in
+    let l = c .before .before .before .loop in
+    let shape-fits = c .before .shape-fits in (
       omega (arith, and-le-l (l .rest) (l .rest - 1)),
-      lowest-more 32 (l .rest) _ _ (markFits (a .shapes .now) (a .rules) (a .low) (a .high)) (low-bit (c .before .before) .1)
-          (sym (c .before .mark-fits .ensures) ∙ not-false (c .before .mark-fits .result) (c .if1 .left)) ∙ l .inv .1,
+      lowest-more 32 (l .rest) _ _ (shapeFits (a .shapes .now) (a .low) (a .high)) (low-bit (c .before .before) .1) (sym (shape-fits .ensures) ∙ not-false (shape-fits .result) (c .if2 .left)) ∙ l .inv .1,
     )
 
-returns-2 : tie.Need-returns-2 Inv-loop μ-loop
-unfolding marksFit
-returns-2 c =
-    let a = c .before .before .args in
+returns-3 : tie.Need-returns-3 Inv-loop μ-loop
+returns-3 c =
+    let a = c .before .before .before .before .args in
     let l = c .before .loop in
-    sym (none-set 32 (markFits (a .shapes .now) (a .rules) (a .low) (a .high))) ∙ rw (c .loop-test .left) at (l .inv .1)
+    let within = c .before .before .before .marks-within in
+    let all = sym (l .inv .1) ∙ (rw (← c .loop-test .left) at (none-set 32 (shapeFits (a .shapes .now) (a .low) (a .high)))) in
+    rw (fits-split (a .shapes .now) (a .rules) (a .low) (a .high) (a .marks), ← within .ensures, not-false (within .result) (c .before .before .if1 .left)) (sym all)
 
 pub marks-fit-spec : {M : Type 1} → statement M
 marks-fit-spec =
@@ -66,10 +79,12 @@ marks-fit-spec =
     (tie.spec
     Inv-loop
     μ-loop
-    loop-holds
-    mark-fits-requires
+    marks-within-requires
     returns
+    loop-holds
+    shape-fits-requires
+    returns-2
     sub-rest
     loop-less
     loop-again
-    returns-2)
+    returns-3)

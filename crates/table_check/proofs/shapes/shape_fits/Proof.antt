@@ -1,15 +1,10 @@
--- `table_check::shapes::mark_fits` meets its contract.
+-- `table_check::shapes::shape_fits` meets its contract.
 -- Assumes nothing.
-use native.Mathlib.Omega.{arith}
-use borrow.Author.Tests.{le-ltb, lt-ltb}
+use mathlib.Core.Path.{refl}
+use Rattle.table_check.specs.Shapes.{shapeFits}
 use borrow.Author.Needs.{needs}
-use Rattle.table_check.specs.Shapes.{shapeFits, markFits}
-use Rattle.table_check.proofs.shapes.mark_fits.Statement.{statement}
-use Rattle.table_check.proofs.shapes.mark_fits.Tie as tie
-
-returns : tie.Need-returns
-unfolding markFits
-returns c = let a = c .before .args in rw (le-ltb (a .i) (a .rules) (omega arith))
+use Rattle.table_check.proofs.shapes.shape_fits.Statement.{statement}
+use Rattle.table_check.proofs.shapes.shape_fits.Tie as tie
 
 mul-at : tie.Need-mul-at
 mul-at c = search needs
@@ -47,15 +42,14 @@ mul-result-4 c = search needs
 element-copy-out-result-4 : tie.Need-element-copy-out-result-4
 element-copy-out-result-4 c = search needs
 
-returns-2 : tie.Need-returns-2
-unfolding markFits shapeFits
-returns-2 c = let a = c .before .before .before .before .before .args in rw (lt-ltb (a .i) (a .rules) (omega arith))
+returns : tie.Need-returns
+unfolding shapeFits
+returns c = refl
 
-pub mark-fits-spec : {M : Type 1} → statement M
-mark-fits-spec =
+pub shape-fits-spec : {M : Type 1} → statement M
+shape-fits-spec =
     tie.close
     (tie.spec
-    returns
     mul-at
     add-result
     mul-result
@@ -68,4 +62,4 @@ mark-fits-spec =
     add-result-3
     mul-result-4
     element-copy-out-result-4
-    returns-2)
+    returns)
