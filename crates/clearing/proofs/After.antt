@@ -8,7 +8,7 @@ use mathlib.Core.List.{List, [], _∷_, _++_, map, append-nil}
 use lib.ListN.{length, length-append, length-map}
 use lib.Dec.{eqb}
 use borrow.Author.Tests.{eq-eqb, ne-eqb}
-use Rattle.words.proofs.Keep.{keep-split}
+use Rattle.word_laws.proofs.Keep.{keep-split}
 use Rattle.format.specs.Request.{Request}
 use Rattle.format.specs.Table.{Record, hasMark}
 use Rattle.format.specs.Place.{recordsHere}

@@ -12,8 +12,8 @@ use lib.ListN.{length}
 use lib.Dec.{eqb}
 use borrow.Author.Tests.{eq-eqb, ne-eqb}
 use Rattle.words.specs.Lists.{tab, keep}
-use Rattle.words.proofs.Keep.{keep-append, map-append}
-use Rattle.words.proofs.Lists.{length-tab}
+use Rattle.word_laws.proofs.Keep.{keep-append, map-append}
+use Rattle.word_laws.proofs.Lists.{length-tab}
 use Rattle.format.specs.Request.{Request}
 use Rattle.format.specs.Table.{Record, hasMark}
 use Rattle.format.specs.Place.{recordHere, recordsHere}

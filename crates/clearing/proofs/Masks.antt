@@ -6,8 +6,8 @@ use mathlib.Core.Path.{_≡_, refl, sym, ap, _∙_}
 use mathlib.Core.Bool.{Bool, true, false, not, _&&_, false≢true}
 use lib.Bits.{bitAnd, and-le-l}
 use Rattle.words.specs.Bytes.{bit}
-use Rattle.words.proofs.Bits.{bit-none}
-use Rattle.words.proofs.BitLaws.{bit-and, bit-without, same-bits}
+use Rattle.word_laws.proofs.Bits.{bit-none}
+use Rattle.word_laws.proofs.BitLaws.{bit-and, bit-without, same-bits}
 
 -- a number has none of the bits that end, so none is taken off
 pub none-taken : (m ends a : ℕ) → m < 4294967296 → bitAnd m ends ≡ 0 → m - bitAnd m (ends - bitAnd ends a) ≡ m

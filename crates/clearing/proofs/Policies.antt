@@ -4,7 +4,7 @@ use Prim.Native.Nat.{ℕ, _+_, _*_, _<_, _≤_}
 use native.Mathlib.Omega.{arith}
 use mathlib.Core.List.{List}
 use lib.ListN.{length}
-use Rattle.format.proofs.AcceptedPolicy.{rules-most, rule-inside}
+use Rattle.format_laws.proofs.AcceptedPolicy.{rules-most, rule-inside}
 use Rattle.clearing.specs.Cleared.{Given}
 
 module _ {policy : List ℕ} {rules : ℕ} {q : List ℕ} (g : Given policy rules q) where

@@ -9,10 +9,10 @@ ghost use Rattle.clearing.specs.Cleared.{Given, endsBy, clearedBy};
 use places::masks::Each;
 use places::masks::apart;
 use request_check::steps::is_last;
-use words::field::bit;
-use words::field::flag;
-use words::field::u32_at;
-use words::field::without;
+use fields::field::bit;
+use fields::field::flag;
+use fields::field::u32_at;
+use fields::field::without;
 
 // Rule i judges, and the request is its last step.
 fn ends_here(policy: &[u8], rules: u32, q: &[u8], judging: u32, i: u32) -> bool

@@ -10,15 +10,15 @@ use borrow.Author.Tests.{eqb-true, leb-true}
 use lib.ListN.{length, getD}
 use mir.Val.{Fits}
 use mir.Syntax.{w8}
-use Rattle.format.proofs.Accepted.{accepted-records, accepted-length}
+use Rattle.format_laws.proofs.Accepted.{accepted-records, accepted-length}
 use Rattle.table_write.proofs.SliceBytes.{slice-bytes}
 use lib.Seq.{take-all}
 use lib.Dec.{eqb, leb}
 use Rattle.words.specs.First.{_orElse_}
 use Rattle.words.specs.Bytes.{part}
 use Rattle.words.specs.Sums.{Sums, sums, words}
-use Rattle.words.proofs.First.{none-first, passes-unless, none-orElse, unless-passes, unless-fails}
-use Rattle.words.proofs.Tests.{both-first, both-second}
+use Rattle.word_laws.proofs.First.{none-first, passes-unless, none-orElse, unless-passes, unless-fails}
+use Rattle.word_laws.proofs.Tests.{both-first, both-second}
 use Rattle.format.specs.Answer.{Answer, accept, refuse, Refusal, refusal, accepting, refusing}
 use Rattle.format.specs.Layout.{capacity}
 use Rattle.format.specs.Block.{blocks, goodLength}

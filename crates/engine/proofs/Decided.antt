@@ -8,7 +8,7 @@ use mathlib.Core.Option.{Option, none, some}
 use Rattle.words.specs.First.{_orElse_}
 use lib.ListN.{length}
 use lib.Dec.{leb}
-use Rattle.words.proofs.First.{none-orElse, unless-passes, unless-fails}
+use Rattle.word_laws.proofs.First.{none-orElse, unless-passes, unless-fails}
 use Rattle.format.specs.Answer.{Answer, refuse, Refusal, refusal, refusing}
 use Rattle.format.specs.Layout.{capacity}
 use Rattle.format.specs.Block.{blocks}

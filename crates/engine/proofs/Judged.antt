@@ -12,7 +12,7 @@ use mir.Syntax.{w8}
 use lib.ListN.{length, getD}
 use lib.Dec.{leb}
 use Rattle.words.specs.First.{_orElse_, unless}
-use Rattle.words.proofs.First.{none-first, passes-unless}
+use Rattle.word_laws.proofs.First.{none-first, passes-unless}
 use Rattle.format.specs.Answer.{Answer, Refusal, refusal, Outcome, refusing}
 use Rattle.format.specs.Layout.{requestBytes, capacity}
 use Rattle.format.specs.Block.{blocks}
@@ -20,7 +20,7 @@ use Rattle.format.specs.Request.{requestFault}
 use Rattle.format.specs.Policy.{policyFault, policyOf}
 use Rattle.format.specs.Table.{Record, tableFault, recordsOf}
 use Rattle.format.specs.Place.{recordsHere}
-use Rattle.format.proofs.Accepted.{accepted-records, accepted-length}
+use Rattle.format_laws.proofs.Accepted.{accepted-records, accepted-length}
 use Rattle.table_check.proofs.Here.{accepted-here}
 use Rattle.table_write.proofs.SliceBytes.{slice-bytes}
 use Rattle.judge.specs.Verdict.{verdict}

@@ -9,8 +9,8 @@ use mathlib.Core.List.{List}
 use lib.Dec.{ltb}
 use Rattle.words.specs.Lists.{allBelow}
 use Rattle.words.specs.Bytes.{zeroFrom}
-use Rattle.words.proofs.Tests.{allBelow-same}
-use Rattle.words.proofs.Zeros.{zeroFrom-add, zero-byte, zero-field, zero-parts, allBelow-past}
+use Rattle.word_laws.proofs.Tests.{allBelow-same}
+use Rattle.word_laws.proofs.Zeros.{zeroFrom-add, zero-byte, zero-field, zero-parts, allBelow-past}
 use Rattle.format.specs.Rule.{privilegeAt, blankPrivilege, exclusionAt, blankExclusion}
 
 module _ (b : List ℕ) where

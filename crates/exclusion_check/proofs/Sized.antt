@@ -7,7 +7,7 @@ use mathlib.Core.Bool.{true, false, _&&_, _||_}
 use lib.Dec.{eqb, leb, ltb}
 use borrow.Author.Tests.{leb-true}
 use Rattle.words.specs.Lists.{allBelow}
-use Rattle.words.proofs.Tests.{both-second}
+use Rattle.word_laws.proofs.Tests.{both-second}
 use Rattle.format.specs.Rule.{Exclusion, goodExclusion, blankPrivilege}
 use Rattle.exclusion_check.specs.Parts.{goodSize, goodMembers}
 

@@ -9,9 +9,9 @@ ghost use Rattle.exclusion_check.specs.Parts.{newRole, goodRole, goodMem
 use crate::privilege;
 use format::answer::Fault;
 use format::answer::Refusal;
-use words::field::u16_at;
-use words::field::wide;
-use words::field::zero_from;
+use fields::field::u16_at;
+use fields::field::wide;
+use fields::field::zero_from;
 
 // The role of member i is none of those before it.
 fn new_role(b: &[u8], e: usize, i: usize) -> bool

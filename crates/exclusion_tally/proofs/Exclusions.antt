@@ -11,10 +11,10 @@ use lib.ListN.{length, getD}
 use lib.Dec.{eqb, leb, ltb}
 use Rattle.words.specs.Lists.{keep, anyOf, allBelow, sumBelow}
 use Rattle.words.specs.Bytes.{u16At, bit}
-use Rattle.words.proofs.Every.{Every, every-weaken, keep-same}
-use Rattle.words.proofs.Lists.{getD-tab}
-use Rattle.words.proofs.Bits.{anyBelow-same}
-use Rattle.words.proofs.Tests.{both-first, both-second, allBelow-at}
+use Rattle.word_laws.proofs.Every.{Every, every-weaken, keep-same}
+use Rattle.word_laws.proofs.Lists.{getD-tab}
+use Rattle.word_laws.proofs.Bits.{anyBelow-same}
+use Rattle.word_laws.proofs.Tests.{both-first, both-second, allBelow-at}
 use Rattle.format.specs.Request.{Request, roles, hasRole}
 use Rattle.format.specs.Rule.{Exclusion, exclusionAt, samePrivilege, blankPrivilege, goodExclusion, goodRoles, goodPrivileges}
 use Rattle.judge.specs.Tally.{roleTally, timesListed, timesDone, repeats, privilegeTally, tally}

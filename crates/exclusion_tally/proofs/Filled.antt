@@ -8,7 +8,7 @@ use mathlib.Core.List.{List, _++_, append-nil}
 use lib.ListN.{length, getD, drop, set, drop-of-length-le}
 use lib.Seq.{append-snoc, drop-cons, getD-at, set-at}
 use Rattle.words.specs.Lists.{tab}
-use Rattle.words.proofs.Lists.{length-tab}
+use Rattle.word_laws.proofs.Lists.{length-tab}
 use Rattle.table_write.proofs.Parts.{tab-more}
 
 module _ {A : Type 0} (f : ℕ → A) where

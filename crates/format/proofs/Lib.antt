@@ -1,9 +1,1 @@
-pub mod Check
-pub mod RecordImage
-pub mod BlockImage
-pub mod TableImage
-pub mod AcceptedBlock
-pub mod Accepted
-pub mod AcceptedPolicy
 pub mod Examples
-pub mod BlockRecords

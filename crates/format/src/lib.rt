@@ -1,3 +1,2 @@
-// The images of document 01, policy, table, record and request: the types of the answers and of the numbers. The code of the checks is above this crate.
+// The images of document 01, policy, table, record and request: the types of the answers. Their laws and the code of the checks are above this crate.
 pub mod answer;
-pub mod number;

@@ -14,7 +14,7 @@ use lib.Bits.{bitAnd, bitOr}
 use lib.Dec.{eqb}
 use Rattle.words.specs.Bytes.{part, bit}
 use Rattle.words.specs.Lists.{keep, anyOf, sumBelow}
-use Rattle.words.proofs.Keep.{keep-append, anyOf-append}
+use Rattle.word_laws.proofs.Keep.{keep-append, anyOf-append}
 use Rattle.format.specs.Layout.{requestBytes}
 use Rattle.format.specs.Request.{Request, user, roles}
 use Rattle.format.specs.Block.{block}
@@ -32,8 +32,8 @@ use Rattle.table_write.proofs.Parts.{tab-more}
 use Rattle.request_check.specs.RequestWords.{doneWord}
 use Rattle.tally.specs.Code.{timesIn}
 use Rattle.history.specs.Code.{HasRoom, TakenIn, fittingIn, countsFor, Scanned}
-use Rattle.words.proofs.Bits.{bit-none, bit-bits, bit-beyond}
-use Rattle.words.proofs.BitLaws.{bit-or, bit-and, bit-without}
+use Rattle.word_laws.proofs.Bits.{bit-none, bit-bits, bit-beyond}
+use Rattle.word_laws.proofs.BitLaws.{bit-or, bit-and, bit-without}
 
 -- where a record of the table stands
 module _ (table : List ℕ) (n : ℕ) (room : HasRoom table n) where

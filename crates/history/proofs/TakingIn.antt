@@ -9,7 +9,7 @@ use mathlib.Core.List.{List}
 use lib.ListN.{length, getD, replicate, length-replicate}
 use lib.Dec.{eqb}
 use Rattle.words.specs.Bytes.{bit}
-use Rattle.words.proofs.Bits.{bit-none}
+use Rattle.word_laws.proofs.Bits.{bit-none}
 use Rattle.tally.specs.Code.{timesIn, Active, Grown}
 use Rattle.history.specs.Code.{Ready, TakenIn}
 

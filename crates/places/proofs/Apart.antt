@@ -10,13 +10,13 @@ use mathlib.Core.Option.{none}
 use borrow.Author.Tests.{lt-ltb, le-ltb}
 use lib.Dec.{eqb, ltb}
 use Rattle.words.specs.Lists.{allBelow, anyBelow}
-use Rattle.words.proofs.Bits.{bits-same, anyBelow-same}
-use Rattle.words.proofs.BitLaws.{bits-or, bits-under}
+use Rattle.word_laws.proofs.Bits.{bits-same, anyBelow-same}
+use Rattle.word_laws.proofs.BitLaws.{bits-or, bits-under}
 use Rattle.format.specs.Request.{Request, contextOf, levelValue}
 use Rattle.format.specs.Rule.{ruleAt}
 use Rattle.format.specs.Fits.{samePlace}
 use Rattle.format.specs.Policy.{Policy, policyFault, policyOf}
-use Rattle.format.proofs.AcceptedPolicy.{depth-few}
+use Rattle.format_laws.proofs.AcceptedPolicy.{depth-few}
 use Rattle.request_check.specs.Levels.{sameAt}
 use Rattle.request_check.proofs.Levels.{same-place}
 use Rattle.places.specs.declared.masks.Each.{Each}

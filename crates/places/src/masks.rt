@@ -6,9 +6,9 @@ ghost use lib.ListN.{length};
 ghost use Rattle.words.specs.Bytes.{part};
 ghost use Rattle.format.specs.Policy.{policyFault, policyOf, ruleCount};
 ghost use Rattle.places.specs.Masks.{isEach, eachAt, EachOf, apartAt, apartBy};
-use words::field::flag;
-use words::field::u16_at;
-use words::field::wide;
+use fields::field::flag;
+use fields::field::u16_at;
+use fields::field::wide;
 
 // The rules that have mark 3, each, at a level, for each of the four levels.
 pub struct Each {

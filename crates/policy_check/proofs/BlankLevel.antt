@@ -6,7 +6,7 @@ use mathlib.Core.Path.{_≡_}
 use mathlib.Core.Bool.{_&&_}
 use mathlib.Core.List.{List}
 use Rattle.words.specs.Bytes.{zeroFrom}
-use Rattle.words.proofs.Zeros.{zeroFrom-add, zero-byte, zero-field}
+use Rattle.word_laws.proofs.Zeros.{zeroFrom-add, zero-byte, zero-field}
 use Rattle.format.specs.Rule.{levelAt, blankLevel}
 
 pub blank-level : (b : List ℕ) (i : ℕ) → zeroFrom b (16 + 8 * i) 8 ≡ blankLevel (levelAt b i)

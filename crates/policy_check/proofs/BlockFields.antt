@@ -11,7 +11,7 @@ use lib.Seq.{getD-take, getD-drop}
 use lib.Dec.{eqb, leb}
 use borrow.Author.Tests.{leb-true}
 use Rattle.words.specs.Bytes.{u16At, u32At}
-use Rattle.words.proofs.Tests.{both-second}
+use Rattle.word_laws.proofs.Tests.{both-second}
 use Rattle.format.specs.Block.{block, blocks, kind, goodLength}
 
 module _ (s : List ℕ) (k : ℕ) where

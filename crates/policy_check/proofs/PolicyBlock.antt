@@ -12,7 +12,7 @@ use lib.ListN.{take, drop}
 use lib.Dec.{eqb}
 use borrow.Author.Tests.{eq-eqb, ne-eqb}
 use Rattle.words.specs.Lists.{anyBelow, sumBelow}
-use Rattle.words.proofs.First.{test-passes, test-fails}
+use Rattle.word_laws.proofs.First.{test-passes, test-fails}
 use Rattle.format.specs.Answer.{Refusal, refusal}
 use Rattle.format.specs.Layout.{permissionKind}
 use Rattle.format.specs.Block.{block, blocks, kind, goodCheck}

@@ -7,7 +7,7 @@ use mathlib.Core.List.{List}
 use lib.Dec.{leb}
 use borrow.Author.Tests.{leb-true}
 use Rattle.words.specs.Bytes.{zeroFrom}
-use Rattle.words.proofs.Tests.{both-first}
+use Rattle.word_laws.proofs.Tests.{both-first}
 use Rattle.format.specs.Policy.{entries, goodPermissionBytes}
 
 pub few-entries : (b : List ℕ) → goodPermissionBytes b ≡ true → entries b ≤ 61

@@ -7,8 +7,8 @@ ghost use Rattle.format.specs.Code.{faultOf};
 ghost use Rattle.policy_check.specs.Parts.{entriesFault};
 use format::answer::Fault;
 use format::answer::Refusal;
-use words::field::u16_at;
-use words::field::zero_from;
+use fields::field::u16_at;
+use fields::field::zero_from;
 
 // Entry i, from 0.
 fn good_permission(b: &[u8], i: usize) -> bool

@@ -12,8 +12,8 @@ use crate::permission::permission_fault;
 use crate::rule::rule_fault;
 use format::answer::Fault;
 use format::answer::Refusal;
-use words::field::u16_at;
-use words::field::u32_at;
+use fields::field::u16_at;
+use fields::field::u32_at;
 
 // The header of block k of `total`, where `seen` says that a permission block came before it.
 fn good_header(b: &[u8], k: u32, total: u32, seen: bool) -> bool

@@ -9,9 +9,9 @@ use exclusion_check::exclusion::exclusions_fault;
 use exclusion_check::privilege;
 use format::answer::Fault;
 use format::answer::Refusal;
-use words::field::u16_at;
-use words::field::wide;
-use words::field::zero_from;
+use fields::field::u16_at;
+use fields::field::wide;
+use fields::field::zero_from;
 
 // A mark with the value beside it: fixed has one, every and each have none.
 fn good_mark(mark: u8, value: u32) -> bool

@@ -9,8 +9,8 @@ use native.Mathlib.Omega.{arith}
 use borrow.Author.Tests.{ne-eqb}
 use lib.Dec.{eqb}
 use Rattle.words.specs.Lists.{keep, anyOf}
-use Rattle.words.proofs.Every.{Every, empty, more as also, every-weaken, every-both, every-keep, every-forall}
-use Rattle.words.proofs.Tests.{both-first}
+use Rattle.word_laws.proofs.Every.{Every, empty, more as also, every-weaken, every-both, every-keep, every-forall}
+use Rattle.word_laws.proofs.Tests.{both-first}
 use Rattle.format.specs.Request.{Request}
 use Rattle.format.specs.Policy.{Policy}
 use Rattle.register.specs.Run.{Entry, numbered, entriesOf}

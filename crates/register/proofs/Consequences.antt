@@ -8,8 +8,8 @@ use native.Mathlib.Omega.{arith}
 use lib.ListN.{length}
 use Rattle.format.specs.Answer.{Answer, accept, grant, refuse, Refusal, Outcome, refusing}
 use Rattle.format.specs.Layout.{capacity, tableBlocks}
-use Rattle.words.proofs.Every.{Every}
-use Rattle.words.proofs.First.{none-second}
+use Rattle.word_laws.proofs.Every.{Every}
+use Rattle.word_laws.proofs.First.{none-second}
 use Rattle.format.specs.Request.{Request, requestFault}
 use Rattle.format.specs.Policy.{Policy, policyFault, policyOf, stamp}
 use Rattle.format.specs.Block.{blocks}

@@ -13,16 +13,16 @@ use borrow.Author.Tests.{leb-true}
 use lib.ListN.{length, length-map}
 use Rattle.words.specs.Lists.{keep}
 use Rattle.words.specs.First.{_orElse_}
-use Rattle.words.proofs.Every.{Every, empty, more as also, every-append}
-use Rattle.words.proofs.First.{none-first, none-second, passes-unless, none-orElse}
+use Rattle.word_laws.proofs.Every.{Every, empty, more as also, every-append}
+use Rattle.word_laws.proofs.First.{none-first, none-second, passes-unless, none-orElse}
 use Rattle.format.specs.Answer.{Answer, grant, Refusal, Outcome, refusing}
 use Rattle.format.specs.Layout.{capacity, tableBlocks}
 use Rattle.format.specs.Block.{blocks}
 use Rattle.format.specs.Request.{Request, requestFault}
 use Rattle.format.specs.Policy.{Policy, policyFault, policyOf, ruleCount, stamp}
 use Rattle.format.specs.Table.{Record, tableFault, tableImage, recordsOf, freshTable}
-use Rattle.format.proofs.TableImage.{image-blocks, reads-back, passes}
-use Rattle.format.proofs.AcceptedPolicy.{rules-most, m-two}
+use Rattle.format_laws.proofs.TableImage.{image-blocks, reads-back, passes}
+use Rattle.format_laws.proofs.AcceptedPolicy.{rules-most, m-two}
 use Rattle.judge.specs.NewTable.{judgeFault, judge, grantOf, openIn, tableAfter}
 use Rattle.judge.specs.Decide.{decideFault, decide}
 use Rattle.register.specs.Run.{entriesOf, numbered}

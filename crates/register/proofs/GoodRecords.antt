@@ -14,18 +14,18 @@ use lib.Dec.{eqb, ltb}
 use lib.Pow.{pow-mono}
 use Rattle.words.specs.Lists.{keep, allBelow, sameList}
 use Rattle.words.specs.Bytes.{bits}
-use Rattle.words.proofs.Every.{Every, empty, more as also, every-all, every-weaken, every-map, every-keep, every-kept, kept-passes, every-forall, every-both}
-use Rattle.words.proofs.Bits.{bit-bits, bit-beyond, bits-below}
-use Rattle.words.proofs.First.{none-first, none-second, passes-unless}
-use Rattle.words.proofs.Tests.{both, both-first, allBelow-true}
-use Rattle.words.proofs.Same.{same-refl}
+use Rattle.word_laws.proofs.Every.{Every, empty, more as also, every-all, every-weaken, every-map, every-keep, every-kept, kept-passes, every-forall, every-both}
+use Rattle.word_laws.proofs.Bits.{bit-bits, bit-beyond, bits-below}
+use Rattle.word_laws.proofs.First.{none-first, none-second, passes-unless}
+use Rattle.word_laws.proofs.Tests.{both, both-first, allBelow-true}
+use Rattle.word_laws.proofs.Same.{same-refl}
 use Rattle.format.specs.Layout.{requestBytes, mostRules}
 use Rattle.format.specs.Request.{Request, goodRequest, requestFault}
 use Rattle.format.specs.Rule.{Rule}
 use Rattle.format.specs.Fits.{fits, place}
 use Rattle.format.specs.Policy.{Policy}
 use Rattle.format.specs.Table.{Record, marked, hasMark, goodMarks, goodRecord}
-use Rattle.format.proofs.TableImage.{Whole}
+use Rattle.format_laws.proofs.TableImage.{Whole}
 use Rattle.register.specs.Run.{Entry, numbered, entriesOf, ofPlace, run}
 use Rattle.register.specs.Register.{runOf, lies, liesInSome}
 use Rattle.register.specs.Image.{recordFor, recordsFor}

@@ -10,9 +10,9 @@ use borrow.Author.Tests.{ne-eqb, eq-eqb}
 use lib.ListN.{length}
 use lib.Dec.{eqb}
 use Rattle.words.specs.Lists.{keep, anyOf, nonEmpty, sameList}
-use Rattle.words.proofs.Every.{Every, empty, more as also, every-all, every-weaken, keep-same}
-use Rattle.words.proofs.Keep.{snoc-induction, keep-append, keep-none, anyOf-append, empty-is-nil}
-use Rattle.words.proofs.Same.{same-refl, same-eq, same-swap}
+use Rattle.word_laws.proofs.Every.{Every, empty, more as also, every-all, every-weaken, keep-same}
+use Rattle.word_laws.proofs.Keep.{snoc-induction, keep-append, keep-none, anyOf-append, empty-is-nil}
+use Rattle.word_laws.proofs.Same.{same-refl, same-eq, same-swap}
 use Rattle.format.specs.Request.{Request}
 use Rattle.format.specs.Rule.{Rule, isSet}
 use Rattle.format.specs.Fits.{fits, place, samePlace}

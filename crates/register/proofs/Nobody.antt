@@ -12,9 +12,9 @@ use lib.ListN.{length}
 use lib.Dec.{eqb, leb}
 use Rattle.words.specs.Lists.{keep, anyOf, nonEmpty, sumBelow, sameList}
 use Rattle.words.specs.First.{_orElse_, unless, first}
-use Rattle.words.proofs.Keep.{keep-append, map-append}
-use Rattle.words.proofs.Same.{same-eq, same-refl}
-use Rattle.words.proofs.First.{none-first, none-second, passes-unless, none-at}
+use Rattle.word_laws.proofs.Keep.{keep-append, map-append}
+use Rattle.word_laws.proofs.Same.{same-eq, same-refl}
+use Rattle.word_laws.proofs.First.{none-first, none-second, passes-unless, none-at}
 use Rattle.format.specs.Answer.{Refusal, refusal, refusing}
 use Rattle.format.specs.Request.{Request, user, requestFault}
 use Rattle.format.specs.Rule.{Rule, Exclusion, isSet}

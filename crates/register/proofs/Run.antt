@@ -9,8 +9,8 @@ use native.Mathlib.Omega.{arith}
 use lib.ListN.{length, length-append}
 use lib.Dec.{eqb}
 use Rattle.words.specs.Lists.{keep, anyOf, nonEmpty, sameList}
-use Rattle.words.proofs.Every.{Every, empty, more as also, every-all, every-append, every-left, every-right, every-head, every-weaken}
-use Rattle.words.proofs.Keep.{snoc-induction, keep-append, anyOf-append}
+use Rattle.word_laws.proofs.Every.{Every, empty, more as also, every-all, every-append, every-left, every-right, every-head, every-weaken}
+use Rattle.word_laws.proofs.Keep.{snoc-induction, keep-append, anyOf-append}
 use Rattle.format.specs.Request.{Request}
 use Rattle.format.specs.Rule.{Rule, isSet}
 use Rattle.format.specs.Fits.{fits, place}

@@ -12,10 +12,10 @@ use lib.Dec.{eqb, leb}
 use Rattle.words.specs.Lists.{keep, anyOf, anyBelow, nonEmpty, sameList}
 use Rattle.words.specs.First.{_orElse_, unless, first}
 use Rattle.words.specs.Bytes.{bit, bits}
-use Rattle.words.proofs.Every.{Every, every-all, every-weaken, keep-same, map-same, every-keep}
-use Rattle.words.proofs.Keep.{keep-append, keep-keep, keep-map, keep-split, anyOf-keep, nonEmpty-map, map-map, map-append}
-use Rattle.words.proofs.Bits.{bit-bits, bits-same, bits-some, anyBelow-same, anyBelow-at, anyBelow-both}
-use Rattle.words.proofs.First.{first-same}
+use Rattle.word_laws.proofs.Every.{Every, every-all, every-weaken, keep-same, map-same, every-keep}
+use Rattle.word_laws.proofs.Keep.{keep-append, keep-keep, keep-map, keep-split, anyOf-keep, nonEmpty-map, map-map, map-append}
+use Rattle.word_laws.proofs.Bits.{bit-bits, bits-same, bits-some, anyBelow-same, anyBelow-at, anyBelow-both}
+use Rattle.word_laws.proofs.First.{first-same}
 use Rattle.format.specs.Answer.{Answer, grant, Refusal, refusal, Outcome, refusing}
 use Rattle.format.specs.Request.{Request, requestFault}
 use Rattle.format.specs.Fits.{place, samePlace}

@@ -9,10 +9,10 @@ use lib.ListN.{getD}
 use lib.Dec.{eqb}
 use Rattle.words.specs.Lists.{allBelow}
 use Rattle.words.specs.Bytes.{u16At, u32At, part}
-use Rattle.words.proofs.Bytes.{Byte}
-use Rattle.words.proofs.Parts.{u16At-part}
-use Rattle.words.proofs.Tests.{allBelow-same}
-use Rattle.words.proofs.Same.{same-tabs}
+use Rattle.word_laws.proofs.Bytes.{Byte}
+use Rattle.word_laws.proofs.Parts.{u16At-part}
+use Rattle.word_laws.proofs.Tests.{allBelow-same}
+use Rattle.word_laws.proofs.Same.{same-tabs}
 use Rattle.format.specs.Request.{Request, contextOf, levelType, levelValue}
 use Rattle.format.specs.Rule.{Rule, Level}
 use Rattle.format.specs.Fits.{placeValue, place, samePlace}

@@ -11,7 +11,7 @@ use borrow.Author.Tests.{eqb-true, eqb-false, eq-eqb, ne-eqb}
 use lib.ListN.{getD, length-take, List·getD-eq-default}
 use lib.Dec.{eqb}
 use Rattle.words.specs.Bytes.{u16At, u32At, part}
-use Rattle.words.proofs.Parts.{byteAt-part}
+use Rattle.word_laws.proofs.Parts.{byteAt-part}
 use Rattle.format.specs.Request.{Request}
 use Rattle.format.specs.Rule.{privilegeAt, samePrivilege}
 use Rattle.judge.specs.Tally.{does}

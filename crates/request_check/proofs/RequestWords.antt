@@ -11,8 +11,8 @@ use lib.Dec.{eqb}
 use borrow.Author.Tests.{eq-eqb, ne-eqb, eqb-true, eqb-false}
 use Rattle.words.specs.Lists.{allBelow, sumBelow}
 use Rattle.words.specs.Bytes.{u16At, u32At, part}
-use Rattle.words.proofs.Bytes.{Byte}
-use Rattle.words.proofs.Parts.{part-part, u16At-part, u32At-part}
+use Rattle.word_laws.proofs.Bytes.{Byte}
+use Rattle.word_laws.proofs.Parts.{part-part, u16At-part, u32At-part}
 use Rattle.format.specs.Request.{user, contextOf, levelType, levelValue, usedLevel, blankLevel, depthOf, goodContext, goodRequest}
 use Rattle.request_check.specs.RequestWords.{usedWord, goodLastWords, goodLevelWords, usedWords}
 

@@ -7,9 +7,9 @@ ghost use Rattle.format.specs.Rule.{levelAt, ruleAt};
 ghost use Rattle.format.specs.Fits.{levelFits, fits as fitsRule};
 ghost use Rattle.request_check.specs.Levels.{fitsBelow};
 use crate::request;
-use words::field::u16_at;
-use words::field::u32_at;
-use words::field::wide;
+use fields::field::u16_at;
+use fields::field::u32_at;
+use fields::field::wide;
 
 // A level of a rule and the word of a context's level.
 fn level_fits(b: &[u8], i: usize, level: u32) -> bool

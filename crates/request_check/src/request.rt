@@ -12,8 +12,8 @@ use exclusion_check::privilege;
 use exclusion_check::privilege::Privilege;
 use format::answer::Fault;
 use format::answer::Refusal;
-use format::number::User;
-use words::field::u32_at;
+use fields::number::User;
+use fields::field::u32_at;
 
 // Who asks.
 pub fn user(s: &[u8], at: usize) -> User

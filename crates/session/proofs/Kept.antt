@@ -6,7 +6,7 @@ use mathlib.Core.List.{List}
 use mathlib.Core.Option.{Option, none, some}
 use native.Mathlib.Omega.{arith}
 use Rattle.words.specs.First.{_orElse_}
-use Rattle.words.proofs.First.{none-first, none-second, passes-unless}
+use Rattle.word_laws.proofs.First.{none-first, none-second, passes-unless}
 use Rattle.format.specs.Answer.{Answer, accept, refuse, Refusal, Outcome, refusing}
 use Rattle.format.specs.Layout.{capacity}
 use Rattle.format.specs.Block.{blocks}

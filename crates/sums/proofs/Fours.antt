@@ -11,7 +11,7 @@ use lib.ListN.{length}
 use Rattle.words.specs.Bytes.{u32At, part}
 use Rattle.words.specs.Sums.{Sums, wrap, addWord, addWords, sums, words}
 use Rattle.sums.specs.Code.{wordFrom, Fours, addFour, fours, together}
-use Rattle.words.proofs.Sums.{sums-more}
+use Rattle.word_laws.proofs.Sums.{sums-more}
 
 -- ---- sums that never wrap
 

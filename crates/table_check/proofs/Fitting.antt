@@ -15,9 +15,9 @@ use lib.Dec.{eqb, leb, ltb}
 use borrow.Author.Tests.{eq-eqb, ne-eqb, eqb-true, eqb-false, leb-true, ltb-true, lt-ltb, le-ltb, le-leb, not-true}
 use Rattle.words.specs.Lists.{allBelow, sumBelow}
 use Rattle.words.specs.Bytes.{u16At, u32At, part, bit}
-use Rattle.words.proofs.Bytes.{Byte}
-use Rattle.words.proofs.Parts.{u16At-part}
-use Rattle.words.proofs.Tests.{both-first, both-second, allBelow-at, allBelow-same}
+use Rattle.word_laws.proofs.Bytes.{Byte}
+use Rattle.word_laws.proofs.Parts.{u16At-part}
+use Rattle.word_laws.proofs.Tests.{both-first, both-second, allBelow-at, allBelow-same}
 use Rattle.format.specs.Block.{block}
 use Rattle.format.specs.Request.{Request, user, roles, operation, target, contextOf, levelType, levelValue, usedLevel, blankLevel, depthOf, goodContext, goodRequest}
 use Rattle.format.specs.Rule.{Rule, Level, ruleAt, goodMark, goodLevel, goodSteps, goodRule, blankLevel as blankRuleLevel}
@@ -25,7 +25,7 @@ use Rattle.format.specs.Fits.{levelFits, fits}
 use Rattle.format.specs.Policy.{Policy, policyFault, policyOf, ruleCount}
 use Rattle.format.specs.Table.{goodMarks, goodRecord}
 use Rattle.format.specs.Place.{recordFrom}
-use Rattle.format.proofs.AcceptedPolicy.{rule-good}
+use Rattle.format_laws.proofs.AcceptedPolicy.{rule-good}
 use Rattle.request_check.specs.Levels.{fitsAt, fitsBelow}
 use Rattle.table_check.specs.Shapes.{levelWant, levelMask, paired, shapeWord, Shapes, shapeFits, markFits, marksFit}
 use Rattle.request_check.proofs.Levels.{type-word, value-word}

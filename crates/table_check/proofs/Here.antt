@@ -11,15 +11,15 @@ use lib.ListN.{length, getD, drop, length-take, length-drop}
 use lib.Seq.{take-take, getD-take, getD-drop, ext-getD}
 use Rattle.words.specs.Lists.{tab}
 use Rattle.words.specs.Bytes.{u32At}
-use Rattle.words.proofs.Lists.{length-tab, getD-tab}
-use Rattle.words.proofs.Packed.{length-packed}
-use Rattle.words.proofs.Parts.{part-part, u32At-part}
+use Rattle.word_laws.proofs.Lists.{length-tab, getD-tab}
+use Rattle.word_laws.proofs.Packed.{length-packed}
+use Rattle.word_laws.proofs.Parts.{part-part, u32At-part}
 use Rattle.format.specs.Layout.{blockBytes, blockRecords, requestBytes, recordBytes, recordsAt}
 use Rattle.format.specs.Block.{blocks, block}
 use Rattle.format.specs.Table.{Record, count, recordAt, recordsOf, tableFault}
 use Rattle.format.specs.Place.{recordFrom, recordHere, recordsHere}
-use Rattle.format.proofs.BlockImage.{recordsIn, noRecord}
-use Rattle.format.proofs.Accepted.{accepted-length, packed, chunk-again}
+use Rattle.format_laws.proofs.BlockImage.{recordsIn, noRecord}
+use Rattle.format_laws.proofs.Accepted.{accepted-length, packed, chunk-again}
 
 -- record i of a block begins at byte 24 + 32 * i
 pub record-from : (b : List ℕ) (i : ℕ) → recordAt b i ≡ recordFrom b (recordsAt + recordBytes * i)

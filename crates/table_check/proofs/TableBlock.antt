@@ -14,15 +14,15 @@ use borrow.Author.Tests.{leb-true}
 use Rattle.words.specs.Lists.{anyBelow}
 use Rattle.words.specs.Bytes.{u16At}
 use Rattle.words.specs.Sums.{Sums}
-use Rattle.words.proofs.First.{test-passes, test-fails}
-use Rattle.words.proofs.Lists.{length-tab}
-use Rattle.words.proofs.Parts.{u16At-part}
-use Rattle.words.proofs.Tests.{both-first, both-second}
+use Rattle.word_laws.proofs.First.{test-passes, test-fails}
+use Rattle.word_laws.proofs.Lists.{length-tab}
+use Rattle.word_laws.proofs.Parts.{u16At-part}
+use Rattle.word_laws.proofs.Tests.{both-first, both-second}
 use Rattle.format.specs.Answer.{refusal}
 use Rattle.format.specs.Block.{blocks, block, kind, number, total, goodCheck}
 use Rattle.format.specs.Policy.{Policy}
 use Rattle.format.specs.Table.{count, recordAt, gap, goodTableHeader, goodStamp, tableBlockFault}
-use Rattle.format.proofs.BlockImage.{recordsIn}
+use Rattle.format_laws.proofs.BlockImage.{recordsIn}
 use Rattle.table_check.specs.CheckParts.{shortBefore, goodTableHeading, goodTableHead, recordsFault, tableFaultIn}
 
 module _ (short : Bool) (k n : ℕ) (b : List ℕ) where

@@ -12,10 +12,10 @@ use lib.Dec.{leb, ltb}
 use lib.Pow.{pow-mono, pow-pos}
 use Rattle.words.specs.Lists.{allBelow}
 use Rattle.words.specs.Bytes.{bit, bits}
-use Rattle.words.proofs.Bits.{bits-below, bit-bits, bit-beyond}
-use Rattle.words.proofs.BitLaws.{bits-of, same-bits}
-use Rattle.words.proofs.Lowest.{allSet}
-use Rattle.words.proofs.Tests.{allBelow-true, allBelow-at}
+use Rattle.word_laws.proofs.Bits.{bits-below, bit-bits, bit-beyond}
+use Rattle.word_laws.proofs.BitLaws.{bits-of, same-bits}
+use Rattle.word_laws.proofs.Lowest.{allSet}
+use Rattle.word_laws.proofs.Tests.{allBelow-true, allBelow-at}
 use Rattle.table_check.specs.Shapes.{shapeFits, markFits, marksWithin, marksFit}
 
 -- ---- two tests of each mark

@@ -6,8 +6,8 @@ ghost use lib.ListN.{length};
 ghost use Rattle.format.specs.Rule.{ruleAt};
 ghost use Rattle.format.specs.Policy.{policyFault, policyOf, ruleCount};
 ghost use Rattle.table_check.specs.Shapes.{levelWant, levelMask, shapeWord, Shapes, shapeFits};
-use words::field::u16_at;
-use words::field::wide;
+use fields::field::u16_at;
+use fields::field::wide;
 
 // What a rule wants of the word of a context's level.
 fn level_want(b: &[u8], l: usize) -> u64

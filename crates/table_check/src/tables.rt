@@ -18,9 +18,9 @@ use format::answer::Refusal;
 use policy_check::block::good_check;
 use policy_check::block::good_length;
 use sums::sum::Sum;
-use words::field::u16_at;
-use words::field::u32_at;
-use words::field::zero_from;
+use fields::field::u16_at;
+use fields::field::u32_at;
+use fields::field::zero_from;
 
 // Kind, number, total and count of block k of n. Records may stand in it only if no block before it is short of one.
 fn good_heading(b: &[u8], k: u32, n: u32, short: bool) -> bool

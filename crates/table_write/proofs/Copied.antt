@@ -8,8 +8,8 @@ use mathlib.Core.List.{List, _++_}
 use lib.ListN.{length, drop, length-drop}
 use lib.Seq.{sets, length-take-le, take-add, drop-drop}
 use Rattle.words.specs.Bytes.{u32At, bytes4, part}
-use Rattle.words.proofs.Every.{Every}
-use Rattle.words.proofs.Bytes.{Byte, bytes4-u32At}
+use Rattle.word_laws.proofs.Every.{Every}
+use Rattle.word_laws.proofs.Bytes.{Byte, bytes4-u32At}
 use Rattle.table_write.specs.Writing.{over}
 use Rattle.table_write.proofs.Over.{stored}
 use Rattle.table_write.proofs.Parts.{u32At-part, part-behind}

@@ -13,17 +13,17 @@ use lib.Seq.{length-take-le, take-take, take-length, getD-take, getD-drop}
 use Rattle.words.specs.Lists.{tab}
 use Rattle.words.specs.Bytes.{u32At, bytes4, part}
 use Rattle.words.specs.Sums.{Sums}
-use Rattle.words.proofs.Every.{Every, every-take, every-drop, every-tab}
-use Rattle.words.proofs.Lists.{tab-cong, tab-getD}
-use Rattle.words.proofs.Bytes.{Byte, u32At-below}
+use Rattle.word_laws.proofs.Every.{Every, every-take, every-drop, every-tab}
+use Rattle.word_laws.proofs.Lists.{tab-cong, tab-getD}
+use Rattle.word_laws.proofs.Bytes.{Byte, u32At-below}
 use Rattle.format.specs.Layout.{blockBytes, blockRecords, recordsAt, recordBytes, requestBytes, capacity}
 use Rattle.format.specs.Block.{block}
 use Rattle.format.specs.Table.{Record, recordAt, recordImage, tableImage}
 use Rattle.format.specs.Place.{recordPlace, recordFrom, recordHere, recordsHere}
 use Rattle.table_write.specs.Writing.{over, countIn}
-use Rattle.format.proofs.RecordImage.{Whole, record-of-image}
-use Rattle.format.proofs.BlockImage.{noRecord, record-read}
-use Rattle.format.proofs.TableImage.{chunk, few, image-block}
+use Rattle.format_laws.proofs.RecordImage.{Whole, record-of-image}
+use Rattle.format_laws.proofs.BlockImage.{noRecord, record-read}
+use Rattle.format_laws.proofs.TableImage.{chunk, few, image-block}
 use Rattle.table_write.proofs.Over.{length-over}
 use Rattle.table_write.proofs.Parts.{part-part, u32At-part, part-before, part-behind, part-here, tab-more, part-tab}
 

@@ -8,15 +8,15 @@ use lib.ListN.{length, take, length-replicate}
 use Rattle.words.specs.Lists.{tab}
 use Rattle.words.specs.Bytes.{zeros, part}
 use Rattle.words.specs.Sums.{Sums, sums, words}
-use Rattle.words.proofs.Every.{Every}
-use Rattle.words.proofs.Lists.{length-tab}
-use Rattle.words.proofs.Bytes.{Byte}
+use Rattle.word_laws.proofs.Every.{Every}
+use Rattle.word_laws.proofs.Lists.{length-tab}
+use Rattle.word_laws.proofs.Bytes.{Byte}
 use Rattle.format.specs.Layout.{blockBytes, checkAt, recordBytes, recordsAt, blockRecords}
 use Rattle.format.specs.Block.{sumBytes, sealed}
 use Rattle.format.specs.Table.{recordAt, blockImage}
 use Rattle.table_write.specs.Writing.{over, headerImage}
-use Rattle.format.proofs.BlockImage.{body, shape}
-use Rattle.format.proofs.BlockRecords.{images-again}
+use Rattle.format_laws.proofs.BlockImage.{body, shape}
+use Rattle.format_laws.proofs.BlockRecords.{images-again}
 use Rattle.table_write.proofs.Over.{length-over, take-here, take-past, over-end}
 
 -- the check behind a block's 504 bytes

@@ -10,15 +10,15 @@ use lib.ListN.{length}
 use lib.Seq.{take-all}
 use Rattle.words.specs.Lists.{tab}
 use Rattle.words.specs.Sums.{Sums}
-use Rattle.words.proofs.Every.{Every}
-use Rattle.words.proofs.Lists.{tab-cong, flatten-parts}
-use Rattle.words.proofs.Bytes.{Byte}
+use Rattle.word_laws.proofs.Every.{Every}
+use Rattle.word_laws.proofs.Lists.{tab-cong, flatten-parts}
+use Rattle.word_laws.proofs.Bytes.{Byte}
 use Rattle.format.specs.Layout.{blockBytes, capacity}
 use Rattle.format.specs.Block.{blocks, block}
 use Rattle.format.specs.Table.{recordAt, blockImage, tableImage}
 use Rattle.format.specs.Place.{recordsHere}
 use Rattle.table_write.specs.Writing.{over, countIn, imageBlock, ImageOutside}
-use Rattle.format.proofs.TableImage.{image-block}
+use Rattle.format_laws.proofs.TableImage.{image-block}
 use Rattle.table_write.proofs.Over.{over-sized}
 use Rattle.table_write.proofs.Parts.{part-before, part-behind, part-here}
 use Rattle.table_write.proofs.Places.{chunk-here, records-whole}

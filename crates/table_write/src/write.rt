@@ -13,9 +13,9 @@ ghost use Rattle.format.specs.Place.{recordPlace, recordsHere};
 ghost use Rattle.table_write.specs.Writing.{over, numbersImage, headerImage, countIn, ImageOutside};
 use sums::sum::Sum;
 use sums::sum::sum_words;
-use words::field::put_u16;
-use words::field::put_u32;
-use words::field::u32_at;
+use fields::field::put_u16;
+use fields::field::put_u32;
+use fields::field::u32_at;
 
 // ---- one block
 

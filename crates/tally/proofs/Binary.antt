@@ -6,8 +6,8 @@ use mathlib.Core.Path.{_≡_, refl}
 use mathlib.Core.Bool.{Bool, true, false, cond, not, _&&_}
 use lib.Bits.{bitAnd, bitXor}
 use Rattle.words.specs.Bytes.{bit}
-use Rattle.words.proofs.Bits.{bit-none}
-use Rattle.words.proofs.BitLaws.{bit-and, bit-xor, bit-without}
+use Rattle.word_laws.proofs.Bits.{bit-none}
+use Rattle.word_laws.proofs.BitLaws.{bit-and, bit-xor, bit-without}
 use Rattle.tally.specs.Code.{inWords}
 
 worth : (b : Bool) (w : ℕ) → cond b w 0 ≤ w

@@ -11,10 +11,10 @@ use lib.Seq.{getD-set-same, getD-set-other}
 use lib.Bits.{bitAnd, bitOr}
 use lib.Dec.{eqb}
 use Rattle.words.specs.Bytes.{bit}
-use Rattle.words.proofs.Tests.{both-first}
-use Rattle.words.proofs.Bits.{bit-none}
-use Rattle.words.proofs.BitLaws.{bit-or, bit-without, bit-power}
-use Rattle.words.proofs.Lowest.{Lowest}
+use Rattle.word_laws.proofs.Tests.{both-first}
+use Rattle.word_laws.proofs.Bits.{bit-none}
+use Rattle.word_laws.proofs.BitLaws.{bit-or, bit-without, bit-power}
+use Rattle.word_laws.proofs.Lowest.{Lowest}
 use Rattle.tally.specs.Code.{Full, Active}
 
 -- roles that are full stay so if there is no new rule

@@ -7,7 +7,7 @@ use native.Mathlib.Omega.{arith}
 use mathlib.Core.Path.{_≡_, refl, sym, ap, ap₂, _∙_}
 use mathlib.Core.Bool.{Bool, true, false, _||_}
 use Rattle.words.specs.Lists.{sumBelow, anyBelow}
-use Rattle.words.proofs.Bits.{anyBelow-at}
+use Rattle.word_laws.proofs.Bits.{anyBelow-at}
 
 -- a loop's turn at n: the sum, or the test, of the numbers below n goes to that of those below n + 1
 pub sum-more : (f : ℕ → ℕ) (n x v : ℕ) → x ≡ sumBelow n f → v ≡ f n → x + v ≡ sumBelow (n + 1) f

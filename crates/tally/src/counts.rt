@@ -4,8 +4,8 @@ ghost use mathlib.Core.Bool.{cond};
 ghost use Prim.Native.Nat.{ℕ, _+_, _<_, _≤_, min};
 ghost use Rattle.words.specs.Bytes.{bit as bitOf};
 ghost use Rattle.tally.specs.Code.{inWords};
-use words::field::bit;
-use words::field::without;
+use fields::field::bit;
+use fields::field::without;
 
 // How often something was done under each of 32 rules, up to 15: in binary, one digit of all the rules in a word, rule i + 1 at bit i. So
 // one addition serves any set of rules.

@@ -9,9 +9,9 @@ use crate::groups::find;
 use crate::groups::put_group;
 use crate::groups::raise;
 use exclusion_check::privilege::Privilege;
-use words::field::bit;
-use words::field::flag;
-use words::field::without;
+use fields::field::bit;
+use fields::field::flag;
+use fields::field::without;
 
 // What was taken in so far: how many groups of privileges there are, the rules for which any of it counts, and the roles of which nothing is
 // left to learn, as they were active under all of these rules.

@@ -6,8 +6,8 @@ use mathlib.Core.Path.{_≡_, sym, ap, ap₂, _∙_}
 use mathlib.Core.List.{List, [], _∷_, _++_}
 use lib.ListN.{length, length-append}
 use Rattle.words.specs.Sums.{Sums}
-use Rattle.words.proofs.Every.{Every}
-use Rattle.words.proofs.Bytes.{Byte}
+use Rattle.word_laws.proofs.Every.{Every}
+use Rattle.word_laws.proofs.Bytes.{Byte}
 use Rattle.format.specs.Layout.{blockBytes, blockRecords, requestBytes, capacity}
 use Rattle.format.specs.Block.{blocks, block}
 use Rattle.format.specs.Request.{Request}

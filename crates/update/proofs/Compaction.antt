@@ -8,7 +8,7 @@ use mathlib.Core.List.{List, [], _∷_, _++_, append-nil}
 use lib.ListN.{length}
 use lib.Dec.{eqb}
 use borrow.Author.Tests.{eq-eqb, eqb-true}
-use Rattle.words.proofs.Tests.{both-first, both-second}
+use Rattle.word_laws.proofs.Tests.{both-first, both-second}
 use Rattle.format.specs.Layout.{blockBytes, capacity}
 use Rattle.format.specs.Request.{Request}
 use Rattle.format.specs.Block.{block}

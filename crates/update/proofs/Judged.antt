@@ -8,9 +8,9 @@ use mathlib.Core.Bool.{Bool, true, false, cond, not, _&&_}
 use mathlib.Core.List.{List, [], _∷_, _++_}
 use lib.Bits.{bitAnd}
 use Rattle.words.specs.Bytes.{bit, bits}
-use Rattle.words.proofs.Bits.{bit-bits, bits-below, bits-same}
-use Rattle.words.proofs.BitLaws.{bit-without, same-bits}
-use Rattle.words.proofs.Every.{Every, map-same, every-weaken}
+use Rattle.word_laws.proofs.Bits.{bit-bits, bits-below, bits-same}
+use Rattle.word_laws.proofs.BitLaws.{bit-without, same-bits}
+use Rattle.word_laws.proofs.Every.{Every, map-same, every-weaken}
 use Rattle.format.specs.Request.{Request}
 use Rattle.format.specs.Fits.{samePlace}
 use Rattle.format.specs.Policy.{Policy}

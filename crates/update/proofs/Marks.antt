@@ -8,9 +8,9 @@ use mathlib.Core.Bool.{Bool, true, false, not, _&&_, _||_}
 use lib.Dec.{ltb}
 use borrow.Author.Tests.{ltb-true}
 use Rattle.words.specs.Bytes.{bit, bits}
-use Rattle.words.proofs.Bits.{bits-below}
-use Rattle.words.proofs.BitLaws.{bits-of}
-use Rattle.words.proofs.Tests.{both-first, both-second, allBelow-at}
+use Rattle.word_laws.proofs.Bits.{bits-below}
+use Rattle.word_laws.proofs.BitLaws.{bits-of}
+use Rattle.word_laws.proofs.Tests.{both-first, both-second, allBelow-at}
 use Rattle.format.specs.Layout.{mostRules}
 use Rattle.format.specs.Request.{goodRequest}
 use Rattle.format.specs.Fits.{fits}

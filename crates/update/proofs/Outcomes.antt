@@ -9,7 +9,7 @@ use lib.ListN.{length, length-append, length-map}
 use lib.Dec.{leb}
 use Rattle.words.specs.Lists.{keep}
 use Rattle.words.specs.First.{unless}
-use Rattle.words.proofs.Keep.{keep-split}
+use Rattle.word_laws.proofs.Keep.{keep-split}
 use Rattle.format.specs.Answer.{Answer, grant, refuse, refusal, Outcome, refusing}
 use Rattle.format.specs.Layout.{capacity}
 use Rattle.format.specs.Block.{blocks}

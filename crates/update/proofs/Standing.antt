@@ -8,16 +8,16 @@ use mathlib.Core.List.{List}
 use lib.ListN.{length}
 use Rattle.words.specs.Lists.{keep}
 use Rattle.words.specs.Sums.{Sums}
-use Rattle.words.proofs.Every.{Every, empty, more}
-use Rattle.words.proofs.Bytes.{Byte}
-use Rattle.words.proofs.Tests.{both-second}
+use Rattle.word_laws.proofs.Every.{Every, empty, more}
+use Rattle.word_laws.proofs.Bytes.{Byte}
+use Rattle.word_laws.proofs.Tests.{both-second}
 use Rattle.format.specs.Block.{blocks}
 use Rattle.format.specs.Request.{goodRequest}
 use Rattle.format.specs.Policy.{Policy, policyOf, stamp}
 use Rattle.format.specs.Table.{Record, hasMark, goodMarks, goodRecord, recordsOf, tableImage}
 use Rattle.format.specs.Place.{recordsHere}
-use Rattle.format.proofs.RecordImage.{Whole}
-use Rattle.format.proofs.Accepted.{accepted-length, accepted-image, accepted-records}
+use Rattle.format_laws.proofs.RecordImage.{Whole}
+use Rattle.format_laws.proofs.Accepted.{accepted-length, accepted-image, accepted-records}
 use Rattle.judge.specs.NewTable.{sweep}
 use Rattle.table_write.proofs.Places.{image-here}
 use Rattle.clearing.specs.Holding.{Holds, AllMarked}

@@ -10,16 +10,16 @@ use lib.Dec.{eqb, leb}
 use borrow.Author.Tests.{eqb-true, eqb-false, not-true, not-false, leb-true}
 use Rattle.words.specs.Bytes.{bit, bits}
 use Rattle.words.specs.Sums.{Sums}
-use Rattle.words.proofs.Bits.{bit-bits}
-use Rattle.words.proofs.Every.{Every, every-both, every-weaken}
+use Rattle.word_laws.proofs.Bits.{bit-bits}
+use Rattle.word_laws.proofs.Every.{Every, every-both, every-weaken}
 use Rattle.format.specs.Answer.{Answer, grant, refuse, refusal, Outcome}
 use Rattle.format.specs.Layout.{capacity}
 use Rattle.format.specs.Block.{blocks}
 use Rattle.format.specs.Policy.{Policy, policyOf, ruleCount, stamp}
 use Rattle.format.specs.Table.{Record, goodRecord, recordsOf, tableImage}
 use Rattle.format.specs.Place.{recordsHere}
-use Rattle.format.proofs.RecordImage.{Whole}
-use Rattle.format.proofs.AcceptedPolicy.{rules-most}
+use Rattle.format_laws.proofs.RecordImage.{Whole}
+use Rattle.format_laws.proofs.AcceptedPolicy.{rules-most}
 use Rattle.judge.specs.Verdict.{judges}
 use Rattle.judge.specs.NewTable.{openIn, recordOf, sweep, tableAfter}
 use Rattle.places.specs.declared.masks.Each.{Each}

@@ -21,7 +21,7 @@ use table_write::write::move_record;
 use table_write::write::put_record;
 use table_write::write::record_place;
 use table_write::write::seal_blocks;
-use words::field::u32_at;
+use fields::field::u32_at;
 
 // ---- the records
 

@@ -9,13 +9,13 @@ use mathlib.Core.Option.{none}
 use borrow.Author.Tests.{leb-true}
 use lib.Dec.{eqb, leb}
 use Rattle.words.specs.Bytes.{byteAt}
-use Rattle.words.proofs.First.{none-first, none-second, passes-unless, none-at}
-use Rattle.words.proofs.Tests.{both-first, both-second}
+use Rattle.word_laws.proofs.First.{none-first, none-second, passes-unless, none-at}
+use Rattle.word_laws.proofs.Tests.{both-first, both-second}
 use Rattle.format.specs.Layout.{ruleKind, permissionKind, highestRole}
 use Rattle.format.specs.Block.{blocks, block, kind}
 use Rattle.format.specs.Rule.{Rule, exclusionAt, ruleAt, goodRule, goodExclusion, ruleFault}
 use Rattle.format.specs.Policy.{Permission, policyFault, policyBlockFault, permissionFault, permissionAt, goodPermission, goodPermissionBytes, entries, ruleCount}
-use Rattle.format.proofs.AcceptedPolicy.{rule-inside, rule-good, exclusion-good}
+use Rattle.format_laws.proofs.AcceptedPolicy.{rule-inside, rule-good, exclusion-good}
 use Rattle.verdict.specs.Code.{EntriesFit, RuleBlock}
 use Rattle.verdict.proofs.Cut.{length-block}
 

@@ -6,7 +6,7 @@ use mathlib.Core.Path.{_≡_, refl, sym, ap, _∙_}
 use mathlib.Core.Bool.{Bool, true, false, _||_}
 use mathlib.Core.List.{List, [], _∷_, _++_, flatten, append-assoc, append-nil}
 use Rattle.words.specs.Lists.{tab, anyOf, anyBelow}
-use Rattle.words.proofs.Keep.{anyOf-append}
+use Rattle.word_laws.proofs.Keep.{anyOf-append}
 use Rattle.table_write.proofs.Parts.{tab-more}
 
 module _ {A : Type 0} where

@@ -10,13 +10,13 @@ use lib.ListN.{length}
 use lib.Dec.{eqb}
 use Rattle.words.specs.First.{unless, first}
 use Rattle.words.specs.Bytes.{byteAt, bit}
-use Rattle.words.proofs.Parts.{byteAt-part}
-use Rattle.words.proofs.First.{first-more}
+use Rattle.word_laws.proofs.Parts.{byteAt-part}
+use Rattle.word_laws.proofs.First.{first-more}
 use Rattle.format.specs.Answer.{Refusal, refusal}
 use Rattle.format.specs.Block.{block}
 use Rattle.format.specs.Rule.{exclusionAt, goodExclusion}
 use Rattle.format.specs.Policy.{policyFault, ruleCount}
-use Rattle.format.proofs.AcceptedPolicy.{rule-inside}
+use Rattle.format_laws.proofs.AcceptedPolicy.{rule-inside}
 use Rattle.judge.specs.Tally.{exclusionNumber}
 use Rattle.tally.specs.Code.{rolesIn}
 use Rattle.exclusion_tally.specs.Code.{reachedIn}

@@ -12,12 +12,12 @@ use lib.Dec.{eqb, leb}
 use Rattle.words.specs.Lists.{keep, anyOf}
 use Rattle.words.specs.First.{_orElse_, unless, first}
 use Rattle.words.specs.Bytes.{byteAt, bit}
-use Rattle.words.proofs.Every.{Every, empty, more, every-append, every-keep, every-map, every-tab}
-use Rattle.words.proofs.Keep.{keep-append, keep-keep, keep-map, anyOf-append}
-use Rattle.words.proofs.First.{first-same, first-none}
-use Rattle.words.proofs.Bits.{bit-none, bit-bits, bit-beyond, bits-same}
-use Rattle.words.proofs.BitLaws.{bits-none}
-use Rattle.words.proofs.Tests.{both-first}
+use Rattle.word_laws.proofs.Every.{Every, empty, more, every-append, every-keep, every-map, every-tab}
+use Rattle.word_laws.proofs.Keep.{keep-append, keep-keep, keep-map, anyOf-append}
+use Rattle.word_laws.proofs.First.{first-same, first-none}
+use Rattle.word_laws.proofs.Bits.{bit-none, bit-bits, bit-beyond, bits-same}
+use Rattle.word_laws.proofs.BitLaws.{bits-none}
+use Rattle.word_laws.proofs.Tests.{both-first}
 use Rattle.format.specs.Answer.{Refusal, refusal}
 use Rattle.format.specs.Layout.{requestBytes}
 use Rattle.format.specs.Block.{block}

@@ -12,8 +12,8 @@ ghost use Rattle.history.specs.Code.{fittingIn};
 ghost use Rattle.verdict.specs.Code.{judgingBy};
 use request_check::fits::fits;
 use request_check::steps::is_first;
-use words::field::bit;
-use words::field::flag;
+use fields::field::bit;
+use fields::field::flag;
 
 // Rule i, whose block is b, judges: it fits, and it has no first step, or this is it, or the run place is open.
 fn rule_judges(b: &[u8], i: u32, fitting: u32, opens: u32, q: &[u8]) -> bool

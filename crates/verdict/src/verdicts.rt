@@ -22,8 +22,8 @@ use format::answer::Refusal;
 use history::scan::scan;
 use history::scan::take;
 use tally::tallies::active_roles;
-use words::field::bit;
-use words::field::wide;
+use fields::field::bit;
+use fields::field::wide;
 
 // The first failing exclusion: its rule and itself, each by its index from 0.
 pub enum Failing {

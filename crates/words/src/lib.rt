@@ -1,2 +1,1 @@
-// Bytes and the numbers in them.
-pub mod field;
+// Bytes and the numbers in them: definitions. Their laws and the code are above this crate.

@@ -7,7 +7,7 @@ use Rattle.words.specs.Bytes.{bits}
 use Rattle.format.specs.Policy.{policyOf}
 use Rattle.clearing.specs.Cleared.{endsBy}
 use Rattle.clearing.proofs.Policies.{few-rules}
-use Rattle.words.proofs.BitLaws.{bits-start, bits-more, bits-fit}
+use Rattle.word_laws.proofs.BitLaws.{bits-start, bits-more, bits-fit}
 use borrow.Author.Needs.{needs}
 use Rattle.clearing.proofs.clearing.ending.Statement.{statement}
 use Rattle.clearing.proofs.clearing.ending.Tie as tie

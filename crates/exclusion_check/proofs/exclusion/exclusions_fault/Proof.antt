@@ -6,7 +6,7 @@ use native.Mathlib.Omega.{arith}
 use borrow.Author.Tests.{not-true, not-false}
 use borrow.Author.Needs.{needs}
 use Rattle.words.specs.First.{first}
-use Rattle.words.proofs.First.{unless-passes, unless-fails, first-start, first-hit, first-more, first-done}
+use Rattle.word_laws.proofs.First.{unless-passes, unless-fails, first-start, first-hit, first-more, first-done}
 use Rattle.exclusion_check.specs.Parts.{exclusionFault, exclusionsFault}
 use Rattle.exclusion_check.proofs.exclusion.exclusions_fault.Statement.{statement}
 use Rattle.exclusion_check.proofs.exclusion.exclusions_fault.Tie as tie

@@ -10,7 +10,7 @@ use Rattle.exclusion_check.proofs.privilege.read.Tie as tie
 use Rattle.exclusion_check.proofs.privilege.read.Reads as reads
 use Rattle.exclusion_check.proofs.privilege.read.Lts as lts
 use Rattle.exclusion_check.proofs.privilege.Privilege.of.Reads as of-reads
-use Rattle.words.proofs.field.u16_at.Reads as u16-at-reads
+use Rattle.fields.proofs.field.u16_at.Reads as u16-at-reads
 
 -- src/privilege.rt:30:29
 u16-at-requires : tie.Need-u16-at-requires

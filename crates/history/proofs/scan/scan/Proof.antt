@@ -9,7 +9,7 @@ use Rattle.format.specs.Place.{recordFrom, recordsHere}
 use Rattle.judge.specs.NewTable.{standsIn}
 use Rattle.words.specs.Lists.{tab}
 use Rattle.words.specs.Bytes.{bit}
-use Rattle.words.proofs.Bits.{bit-none}
+use Rattle.word_laws.proofs.Bits.{bit-none}
 use lib.ListN.{length}
 use lib.Seq.{take-all}
 use borrow.Author.Tests.{ltb-true, lt-ltb}

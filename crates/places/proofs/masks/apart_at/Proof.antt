@@ -6,7 +6,7 @@ use mathlib.Core.List.{List}
 use borrow.Author.Tests.{eq-eqb, ne-eqb}
 use lib.ListN.{length}
 use Rattle.words.specs.Bytes.{u16At, part}
-use Rattle.words.proofs.Parts.{part-whole}
+use Rattle.word_laws.proofs.Parts.{part-whole}
 use Rattle.format.specs.Request.{contextOf, levelValue}
 use Rattle.request_check.proofs.Levels.{value-at}
 use borrow.Author.Needs.{needs}

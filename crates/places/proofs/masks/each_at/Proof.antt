@@ -4,9 +4,9 @@ use Prim.Native.Nat.{_+_, _-_, _≤_}
 use native.Mathlib.Omega.{arith}
 use mathlib.Core.Path.{_≡_, sym, ap, _∙_}
 use Rattle.words.specs.Bytes.{bits}
-use Rattle.words.proofs.BitLaws.{bits-start, bits-more, bits-fit}
+use Rattle.word_laws.proofs.BitLaws.{bits-start, bits-more, bits-fit}
 use Rattle.format.specs.Policy.{policyOf}
-use Rattle.format.proofs.AcceptedPolicy.{rules-most}
+use Rattle.format_laws.proofs.AcceptedPolicy.{rules-most}
 use Rattle.places.specs.Masks.{isEach, eachAt}
 use borrow.Author.Needs.{needs}
 use Rattle.places.proofs.masks.each_at.Statement.{statement}

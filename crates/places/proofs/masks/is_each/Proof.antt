@@ -2,10 +2,10 @@
 -- Assumes nothing.
 use Prim.Native.Nat.{_+_, _*_}
 use native.Mathlib.Omega.{arith}
-use Rattle.words.proofs.Parts.{byteAt-part}
+use Rattle.word_laws.proofs.Parts.{byteAt-part}
 use Rattle.format.specs.Rule.{ruleAt}
 use Rattle.format.specs.Policy.{policyOf}
-use Rattle.format.proofs.AcceptedPolicy.{rule-inside}
+use Rattle.format_laws.proofs.AcceptedPolicy.{rule-inside}
 use Rattle.places.specs.Masks.{isEach}
 use borrow.Author.Needs.{needs}
 use Rattle.places.proofs.masks.is_each.Statement.{statement}

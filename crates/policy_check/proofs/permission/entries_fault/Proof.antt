@@ -6,7 +6,7 @@ use native.Mathlib.Omega.{arith}
 use borrow.Author.Tests.{not-true, not-false}
 use borrow.Author.Needs.{needs}
 use Rattle.words.specs.First.{first}
-use Rattle.words.proofs.First.{unless-passes, unless-fails, first-start, first-hit, first-more, first-done}
+use Rattle.word_laws.proofs.First.{unless-passes, unless-fails, first-start, first-hit, first-more, first-done}
 use Rattle.policy_check.specs.Parts.{entryFault, entriesFault}
 use Rattle.policy_check.proofs.permission.entries_fault.Statement.{statement}
 use Rattle.policy_check.proofs.permission.entries_fault.Tie as tie

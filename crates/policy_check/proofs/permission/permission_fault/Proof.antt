@@ -5,7 +5,7 @@ use mathlib.Core.Bool.{true}
 use native.Mathlib.Omega.{arith}
 use borrow.Author.Tests.{not-true, not-false}
 use borrow.Author.Needs.{needs}
-use Rattle.words.proofs.First.{test-passes, test-fails}
+use Rattle.word_laws.proofs.First.{test-passes, test-fails}
 use Rattle.format.specs.Policy.{permissionFault, goodPermissionBytes}
 use Rattle.policy_check.proofs.Sized.{few-entries}
 use Rattle.policy_check.proofs.permission.permission_fault.Statement.{statement}

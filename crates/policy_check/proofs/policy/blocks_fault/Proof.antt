@@ -7,7 +7,7 @@ use lib.ListN.{length-take, length-drop}
 use borrow.Author.Needs.{needs}
 use Rattle.words.specs.Lists.{anyBelow}
 use Rattle.words.specs.First.{first}
-use Rattle.words.proofs.First.{first-start, first-hit, first-more, first-done}
+use Rattle.word_laws.proofs.First.{first-start, first-hit, first-more, first-done}
 use Rattle.format.specs.Policy.{policyBlockFault}
 use Rattle.format.specs.Code.{faultOf}
 use Rattle.policy_check.specs.Parts.{permissionBefore, blocksFault}

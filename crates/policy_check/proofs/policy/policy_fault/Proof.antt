@@ -5,7 +5,7 @@ use mathlib.Core.Bool.{true}
 use native.Mathlib.Omega.{arith}
 use borrow.Author.Tests.{not-true, not-false}
 use borrow.Author.Needs.{needs}
-use Rattle.words.proofs.First.{test-passes, test-fails}
+use Rattle.word_laws.proofs.First.{test-passes, test-fails}
 use Rattle.format.specs.Block.{goodLength}
 use Rattle.format.specs.Policy.{policyFault}
 use Rattle.policy_check.proofs.BlockFields.{few-blocks}

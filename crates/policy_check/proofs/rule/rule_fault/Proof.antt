@@ -3,7 +3,7 @@
 use mathlib.Core.Path.{sym, _∙_}
 use borrow.Author.Tests.{not-true, not-false}
 use borrow.Author.Needs.{needs}
-use Rattle.words.proofs.First.{test-passes, test-fails}
+use Rattle.word_laws.proofs.First.{test-passes, test-fails}
 use Rattle.format.specs.Rule.{ruleFault}
 use Rattle.policy_check.proofs.rule.rule_fault.Statement.{statement}
 use Rattle.policy_check.proofs.rule.rule_fault.Tie as tie

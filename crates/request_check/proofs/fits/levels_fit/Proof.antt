@@ -8,7 +8,7 @@ use lib.ListN.{getD}
 use borrow.Author.Needs.{needs}
 use Rattle.words.specs.Lists.{allBelow}
 use Rattle.words.specs.Bytes.{part}
-use Rattle.words.proofs.Bytes.{Byte}
+use Rattle.word_laws.proofs.Bytes.{Byte}
 use Rattle.format.specs.Rule.{ruleAt}
 use Rattle.request_check.specs.Levels.{fitsBelow}
 use Rattle.request_check.proofs.Levels.{type-word, value-word}

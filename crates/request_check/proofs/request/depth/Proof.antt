@@ -3,7 +3,7 @@
 use Prim.Native.Nat.{ℕ}
 use lib.ListN.{getD}
 use borrow.Author.Needs.{needs}
-use Rattle.words.proofs.Bytes.{Byte}
+use Rattle.word_laws.proofs.Bytes.{Byte}
 use Rattle.request_check.proofs.RequestWords.{depth-at}
 use Rattle.request_check.proofs.request.depth.Statement.{statement}
 use Rattle.request_check.proofs.request.depth.Tie as tie

@@ -3,7 +3,7 @@
 use Prim.Native.Nat.{ℕ}
 use lib.ListN.{getD}
 use borrow.Author.Needs.{needs}
-use Rattle.words.proofs.Bytes.{Byte}
+use Rattle.word_laws.proofs.Bytes.{Byte}
 use Rattle.request_check.proofs.RequestWords.{context-words}
 use Rattle.request_check.proofs.request.good_context.Statement.{statement}
 use Rattle.request_check.proofs.request.good_context.Tie as tie

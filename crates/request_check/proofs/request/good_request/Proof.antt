@@ -8,7 +8,7 @@ use lib.Dec.{eqb}
 use borrow.Author.Tests.{not-true, not-false, ne-eqb}
 use borrow.Author.Needs.{needs}
 use Rattle.words.specs.Bytes.{u32At}
-use Rattle.words.proofs.Bytes.{Byte}
+use Rattle.word_laws.proofs.Bytes.{Byte}
 use Rattle.request_check.proofs.RequestWords.{request-words}
 use Rattle.request_check.proofs.request.good_request.Statement.{statement}
 use Rattle.request_check.proofs.request.good_request.Tie as tie

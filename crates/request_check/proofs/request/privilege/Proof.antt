@@ -1,6 +1,6 @@
 -- `request_check::request::privilege` meets its contract.
 -- Assumes nothing.
-use Rattle.words.proofs.Parts.{u32At-part}
+use Rattle.word_laws.proofs.Parts.{u32At-part}
 use native.Mathlib.Omega.{arith}
 use mathlib.Core.Path.{sym, _∙_}
 use borrow.Author.Needs.{needs}

@@ -4,8 +4,8 @@ use mathlib.Core.Path.{_≡_, sym, _∙_}
 use lib.ListN.{length}
 use borrow.Author.Tests.{eq-eqb, ne-eqb, not-true, not-false}
 use borrow.Author.Needs.{needs}
-use Rattle.words.proofs.First.{unless-passes, unless-fails, test-passes, test-fails}
-use Rattle.words.proofs.Parts.{part-whole}
+use Rattle.word_laws.proofs.First.{unless-passes, unless-fails, test-passes, test-fails}
+use Rattle.word_laws.proofs.Parts.{part-whole}
 use Rattle.format.specs.Answer.{refusal}
 use Rattle.format.specs.Request.{goodRequest, requestFault}
 use Rattle.request_check.proofs.request.request_fault.Statement.{statement}

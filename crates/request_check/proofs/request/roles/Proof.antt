@@ -3,7 +3,7 @@
 use native.Mathlib.Omega.{arith}
 use mathlib.Core.Path.{sym, _∙_}
 use borrow.Author.Needs.{needs}
-use Rattle.words.proofs.Parts.{u32At-part}
+use Rattle.word_laws.proofs.Parts.{u32At-part}
 use Rattle.request_check.proofs.request.roles.Statement.{statement}
 use Rattle.request_check.proofs.request.roles.Tie as tie
 

@@ -5,7 +5,7 @@ use Rattle.sums.proofs.sum.add_at.Statement.{statement}
 use Rattle.sums.proofs.sum.add_at.Tie as tie
 use Rattle.sums.proofs.sum.add_at.Reads as reads
 use Rattle.sums.proofs.sum.add_at.Lts as lts
-use Rattle.words.proofs.field.u32_at.Reads as u32-at-reads
+use Rattle.fields.proofs.field.u32_at.Reads as u32-at-reads
 use Rattle.sums.proofs.sum.Sum.add.Reads as add-reads
 
 -- src/sum.rt:43:13

@@ -8,13 +8,13 @@ use borrow.Author.Needs.{needs}
 use Rattle.words.specs.Bytes.{part}
 use Rattle.words.specs.Sums.{sums, words}
 use Rattle.sums.specs.Code.{sumsOf}
-use Rattle.words.proofs.Sums.{sums-more}
+use Rattle.word_laws.proofs.Sums.{sums-more}
 use Rattle.sums.proofs.Fours.{fours-sums}
 use Rattle.sums.proofs.sum.sum_words.Statement.{statement}
 use Rattle.sums.proofs.sum.sum_words.Tie as tie
 use Rattle.sums.proofs.sum.sum_words.Reads as reads
 use Rattle.sums.proofs.sum.sum_words.Lts as lts
-use Rattle.words.proofs.field.u32_at.Reads as u32-at-reads
+use Rattle.fields.proofs.field.u32_at.Reads as u32-at-reads
 use Rattle.sums.proofs.sum.Sum.add.Reads as add-reads
 use Rattle.sums.proofs.sum.sum_fours.Reads as sum-fours-reads
 use Rattle.sums.proofs.sum.together.Reads as together-reads

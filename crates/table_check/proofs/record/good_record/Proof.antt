@@ -8,7 +8,7 @@ use lib.ListN.{getD}
 use borrow.Author.Tests.{not-true, not-false}
 use borrow.Author.Needs.{needs}
 use Rattle.words.specs.Bytes.{part}
-use Rattle.words.proofs.Bytes.{Byte}
+use Rattle.word_laws.proofs.Bytes.{Byte}
 use Rattle.format.specs.Request.{goodRequest}
 use Rattle.table_check.proofs.Fitting.{bad-request, no-marks, two-levels, record-fits}
 use Rattle.table_check.proofs.record.good_record.Statement.{statement}

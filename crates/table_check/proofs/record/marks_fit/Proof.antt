@@ -7,7 +7,7 @@ use mathlib.Core.Bool.{true, _&&_, and-false}
 use lib.Bits.{bitAnd, and-le-l, and-le-r}
 use lib.Count.{trailingZeros}
 use borrow.Author.Tests.{not-true, not-false}
-use Rattle.words.proofs.Lowest.{Lowest, lowest, allSet, none-set, lowest-fails, lowest-more}
+use Rattle.word_laws.proofs.Lowest.{Lowest, lowest, allSet, none-set, lowest-fails, lowest-more}
 use Rattle.table_check.specs.Shapes.{shapeFits, marksWithin}
 use Rattle.table_check.proofs.Within.{fits-split}
 use borrow.Author.Needs.{needs}

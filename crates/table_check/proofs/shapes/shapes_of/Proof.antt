@@ -5,10 +5,10 @@ use native.Mathlib.Omega.{arith}
 use mathlib.Core.Path.{_≡_, _∙_}
 use lib.ListN.{length, getD, length-set}
 use borrow.Author.Needs.{needs}
-use Rattle.words.proofs.Bytes.{Byte}
-use Rattle.words.proofs.Parts.{part-to, part-length}
+use Rattle.word_laws.proofs.Bytes.{Byte}
+use Rattle.word_laws.proofs.Parts.{part-to, part-length}
 use Rattle.format.specs.Policy.{policyOf}
-use Rattle.format.proofs.AcceptedPolicy.{rules-few, rules-most}
+use Rattle.format_laws.proofs.AcceptedPolicy.{rules-few, rules-most}
 use Rattle.table_check.proofs.Fitting.{ShapedBelow, shaped-more, shapes-made}
 use Rattle.table_check.proofs.shapes.shapes_of.Statement.{statement}
 use Rattle.table_check.proofs.shapes.shapes_of.Tie as tie

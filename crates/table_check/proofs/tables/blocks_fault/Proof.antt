@@ -8,8 +8,8 @@ use borrow.Author.Needs.{needs}
 use Rattle.words.specs.Lists.{anyBelow}
 use Rattle.words.specs.First.{first}
 use Rattle.sums.specs.Code.{sumsOf}
-use Rattle.words.proofs.Parts.{part-to}
-use Rattle.words.proofs.First.{first-start, first-hit, first-more, first-done}
+use Rattle.word_laws.proofs.Parts.{part-to}
+use Rattle.word_laws.proofs.First.{first-start, first-hit, first-more, first-done}
 use Rattle.format.specs.Block.{block, blocks}
 use Rattle.format.specs.Policy.{Policy}
 use Rattle.format.specs.Table.{tableBlockFault}

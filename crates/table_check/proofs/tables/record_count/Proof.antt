@@ -7,10 +7,10 @@ use mathlib.Core.List.{flatten}
 use lib.ListN.{length}
 use borrow.Author.Needs.{needs}
 use Rattle.words.specs.Lists.{tab}
-use Rattle.words.proofs.Joined.{joined-start, joined-more, joined-done}
+use Rattle.word_laws.proofs.Joined.{joined-start, joined-more, joined-done}
 use Rattle.format.specs.Block.{block, blocks}
 use Rattle.format.specs.Table.{recordsOf}
-use Rattle.format.proofs.BlockImage.{recordsIn}
+use Rattle.format_laws.proofs.BlockImage.{recordsIn}
 use Rattle.table_check.proofs.TableBlock.{records-at}
 use Rattle.table_check.proofs.tables.record_count.Statement.{statement}
 use Rattle.table_check.proofs.tables.record_count.Tie as tie

@@ -6,7 +6,7 @@ use mathlib.Core.Path.{_≡_, sym, _∙_}
 use borrow.Author.Tests.{not-true, not-false}
 use borrow.Author.Needs.{needs}
 use Rattle.words.specs.First.{first}
-use Rattle.words.proofs.First.{unless-passes, unless-fails, first-start, first-hit, first-more, first-done}
+use Rattle.word_laws.proofs.First.{unless-passes, unless-fails, first-start, first-hit, first-more, first-done}
 use Rattle.format.specs.Answer.{refusal}
 use Rattle.format.specs.Table.{count, recordAt, goodRecord}
 use Rattle.format.specs.Policy.{Policy}

@@ -5,12 +5,12 @@ use mathlib.Core.Path.{_≡_, sym, _∙_}
 use mathlib.Core.Bool.{true}
 use borrow.Author.Tests.{not-true, not-false}
 use borrow.Author.Needs.{needs}
-use Rattle.words.proofs.First.{test-fails, test-passes}
+use Rattle.word_laws.proofs.First.{test-fails, test-passes}
 use Rattle.format.specs.Answer.{refusal}
 use Rattle.format.specs.Block.{goodLength}
 use Rattle.format.specs.Policy.{policyOf}
 use Rattle.format.specs.Table.{tableLengthFault, tableFault}
-use Rattle.format.proofs.Accepted.{blocked}
+use Rattle.format_laws.proofs.Accepted.{blocked}
 use Rattle.table_check.proofs.tables.table_fault.Statement.{statement}
 use Rattle.table_check.proofs.tables.table_fault.Tie as tie
 

@@ -4,7 +4,7 @@ use native.Mathlib.Omega.{arith}
 use Rattle.words.specs.Lists.{tab}
 use Rattle.sums.specs.Code.{sumsOf}
 use Rattle.format.specs.Place.{recordsHere}
-use Rattle.format.proofs.Accepted.{blocked}
+use Rattle.format_laws.proofs.Accepted.{blocked}
 use Rattle.table_write.proofs.TableWritten.{nothing-outside}
 use borrow.Author.Needs.{needs}
 use Rattle.table_write.proofs.write.fresh.Statement.{statement}

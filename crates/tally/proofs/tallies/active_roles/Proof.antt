@@ -1,7 +1,7 @@
 -- `tally::tallies::active_roles` meets its contract: the roles are those passed.
 -- Assumes nothing.
 use Rattle.tally.specs.Code.{rolesIn}
-use Rattle.words.proofs.BitLaws.{bits-start, bits-more, bits-fit}
+use Rattle.word_laws.proofs.BitLaws.{bits-start, bits-more, bits-fit}
 use Rattle.words.specs.Bytes.{bit as bitOf, bits}
 use lib.ListN.{getD}
 use native.Mathlib.Omega.{arith}

@@ -7,7 +7,7 @@ use mathlib.Core.List.{List, _++_}
 use lib.Dec.{eqb}
 use borrow.Author.Tests.{eqb-true}
 use Rattle.words.specs.Bytes.{bytes4, part}
-use Rattle.words.proofs.Tests.{both-first, both-second}
+use Rattle.word_laws.proofs.Tests.{both-first, both-second}
 use Rattle.format.specs.Block.{blocks}
 use Rattle.format.specs.Place.{recordFrom, recordHere}
 use Rattle.table_write.specs.Writing.{over}

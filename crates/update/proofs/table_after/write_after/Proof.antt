@@ -7,7 +7,7 @@ use borrow.Author.Tests.{eqb-true}
 use lib.Dec.{eqb}
 use lib.ListN.{length}
 use Rattle.sums.specs.Code.{sumsOf}
-use Rattle.words.proofs.Tests.{both-first, both-second}
+use Rattle.word_laws.proofs.Tests.{both-first, both-second}
 use Rattle.format.specs.Block.{blocks}
 use Rattle.format.specs.Table.{tableImage}
 use Rattle.format.specs.Place.{recordsHere}

@@ -2,7 +2,7 @@
 -- Assumes nothing.
 use Rattle.verdict.proofs.Cut.{cut, length-block}
 use Rattle.verdict.proofs.AcceptedEntries.{entries-fit}
-use Rattle.format.proofs.AcceptedPolicy.{policy-blocked}
+use Rattle.format_laws.proofs.AcceptedPolicy.{policy-blocked}
 use Rattle.verdict.proofs.Permissions.{blockGrants, permits-hit, permits-more, permits-done}
 use Rattle.format.specs.Block.{blocks}
 use Rattle.words.specs.Lists.{anyBelow}

@@ -1,10 +1,10 @@
 -- `verdict::rules::fitting` meets its contract: the mask is that of the rules passed.
 -- Assumes nothing.
-use Rattle.words.proofs.BitLaws.{bits-start, bits-more, bits-fit}
+use Rattle.word_laws.proofs.BitLaws.{bits-start, bits-more, bits-fit}
 use Rattle.words.specs.Bytes.{bits}
 use Rattle.verdict.proofs.AcceptedEntries.{rule-fits}
 use Rattle.verdict.proofs.Cut.{cut}
-use Rattle.format.proofs.AcceptedPolicy.{rules-most, rule-inside}
+use Rattle.format_laws.proofs.AcceptedPolicy.{rules-most, rule-inside}
 use Rattle.format.specs.Policy.{policyOf}
 use Rattle.format.specs.Rule.{ruleAt}
 use Rattle.format.specs.Request.{Request}

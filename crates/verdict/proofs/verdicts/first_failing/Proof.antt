@@ -5,9 +5,9 @@ use Rattle.verdict.proofs.Searching.{rule-silent, rule-judges, exclusio
 use Rattle.verdict.proofs.Nested.{left, row-hit, row-more, row-done}
 use Rattle.verdict.proofs.Cut.{cut}
 use Rattle.verdict.specs.Code.{failsIn, maskFails}
-use Rattle.format.proofs.AcceptedPolicy.{rules-most, rule-inside}
+use Rattle.format_laws.proofs.AcceptedPolicy.{rules-most, rule-inside}
 use Rattle.format.specs.Answer.{Refusal}
-use Rattle.words.proofs.First.{first-start, first-done}
+use Rattle.word_laws.proofs.First.{first-start, first-done}
 use Rattle.words.specs.First.{first}
 use borrow.Author.Tests.{not-true, not-false}
 use mathlib.Core.Option.{Option}

@@ -1,7 +1,7 @@
 -- `tally::tallies::Tally::add_roles` meets its contract: all roles but those left have been gone through.
 -- Assumes nothing.
 use Rattle.tally.proofs.Roles.{Through, or-second, full-still, through-full, through-more, through-all}
-use Rattle.words.proofs.Lowest.{Lowest, lowest}
+use Rattle.word_laws.proofs.Lowest.{Lowest, lowest}
 use lib.Bits.{bitAnd, bitOr, and-le-l, and-le-r}
 use lib.Count.{trailingZeros}
 use native.Mathlib.Omega.{arith}

@@ -1,0 +1,3 @@
+// Numbers in bytes, and the types of the numbers that must not mix.
+pub mod field;
+pub mod number;
