@@ -6,13 +6,13 @@ ghost use Rattle.words.specs.Bytes.{bits};
 ghost use Rattle.format.specs.Policy.{policyOf};
 ghost use Rattle.format.specs.Place.{recordFrom};
 ghost use Rattle.clearing.specs.Cleared.{Given, endsBy, clearedBy};
-use places::masks::Each;
-use places::masks::apart;
-use request_check::steps::is_last;
 use fields::field::bit;
 use fields::field::flag;
 use fields::field::u32_at;
 use fields::field::without;
+use places::masks::Each;
+use places::masks::apart;
+use request_check::steps::is_last;
 
 // Rule i judges, and the request is its last step.
 fn ends_here(policy: &[u8], rules: u32, q: &[u8], judging: u32, i: u32) -> bool

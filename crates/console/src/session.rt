@@ -6,8 +6,8 @@ ghost use lib.ListN.{length};
 use engine::checks::make_table;
 use engine::deciding::decide;
 use engine::reply::Reply;
-use libc::STDOUT_FILENO;
 use fields::field::wide;
+use libc::STDOUT_FILENO;
 
 // How many blocks of a policy to read in all, by what its first block promises: one at least, 64 at most.
 fn promised(low: u8, high: u8) -> usize

@@ -7,11 +7,11 @@ ghost use Rattle.format.specs.Rule.{exclusionAt, ruleAt, goodRoles, goodPrivile
 ghost use Rattle.format.specs.Code.{faultOf};
 ghost use Rattle.exclusion_check.specs.Parts.{newRole, goodRole, goodMembers, goodSize, exclusionsFault};
 use crate::privilege;
-use format::answer::Fault;
-use format::answer::Refusal;
 use fields::field::u16_at;
 use fields::field::wide;
 use fields::field::zero_from;
+use format::answer::Fault;
+use format::answer::Refusal;
 
 // The role of member i is none of those before it.
 fn new_role(b: &[u8], e: usize, i: usize) -> bool

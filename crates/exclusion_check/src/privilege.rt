@@ -5,9 +5,9 @@ ghost use Prim.Native.Nat.{_+_, _*_, _<_};
 ghost use lib.ListN.{length};
 ghost use Rattle.words.specs.Bytes.{u32At};
 ghost use Rattle.format.specs.Rule.{privilegeAt, fullPrivilege, blankPrivilege, samePrivilege};
+use fields::field::u16_at;
 use fields::number::Operation;
 use fields::number::Target;
-use fields::field::u16_at;
 
 // An operation and a target in one number, as their bytes stand: two privileges are one if these are equal.
 pub struct Privilege(pub u32);

@@ -9,12 +9,12 @@ ghost use Rattle.tally.specs.Code.{Trees};
 ghost use Rattle.exclusion_tally.specs.Code.{membersAt, rolesAmong, listedWord, repeatsWord, memberCounts, membersCount, tallyIn, reachedIn};
 use exclusion_check::privilege;
 use exclusion_check::privilege::Privilege;
-use fields::number::Role;
-use tally::counts::number_if;
-use tally::groups::times_done;
 use fields::field::bit;
 use fields::field::u16_at;
 use fields::field::wide;
+use fields::number::Role;
+use tally::counts::number_if;
+use tally::groups::times_done;
 
 // The role is among these: role k is bit k - 1.
 pub fn has_role(roles: u32, role: Role) -> bool

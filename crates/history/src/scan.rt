@@ -13,6 +13,8 @@ ghost use Rattle.judge.specs.Tally.{sameUser};
 ghost use Rattle.places.specs.Masks.{apartBy};
 ghost use Rattle.request_check.specs.RequestWords.{doneWord};
 ghost use Rattle.history.specs.Code.{HasRoom, Ready, TakenIn, fittingIn, SeenIn};
+use fields::field::u32_at;
+use fields::field::without;
 use fields::number::User;
 use places::masks::Each;
 use places::masks::apart;
@@ -20,8 +22,6 @@ use places::masks::each_of;
 use request_check::request;
 use table_write::write::record_place;
 use tally::tallies::Tally;
-use fields::field::u32_at;
-use fields::field::without;
 
 // The request at a byte is this user's.
 pub fn same_user(s: &[u8], at: usize, who: User) -> bool

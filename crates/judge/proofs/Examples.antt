@@ -19,7 +19,7 @@ use Rattle.format.specs.Policy.{Policy, Permission, goodPermission, goodPermiss
 use Rattle.format.specs.Policy.{policyFault, ruleCount, permissionsAt, policyOf, stamp}
 use Rattle.format.specs.Table.{Record, goodRecord, recordAt, gap, goodTableHeader, goodStamp, tableBlockFault, tableLengthFault, tableFault}
 use Rattle.format.specs.Table.{recordsOf, blockImage, tableImage, freshTable}
-use Rattle.judge.specs.Tally.{sameUser, does, roleTally, timesListed, timesDone, repeats, privilegeTally, tally, reached, exclusionNumber}
+use Rattle.judge.specs.Tally.{sameUser, does, countsFor, roleTally, timesListed, timesDone, repeats, privilegeTally, tally, reached, exclusionNumber}
 use Rattle.judge.specs.Tally.{counted}
 use Rattle.judge.specs.Verdict.{grants, permitted, isFirst, isLast, judges, failing, verdict}
 use Rattle.judge.specs.NewTable.{standsIn, openIn, pastIn, ends, gives, recordOf, cleared, sweep, newTable, grantOf, tableAfter, judgeFault}
@@ -29,7 +29,7 @@ use Rattle.judge.specs.Decide.{decideFault, decide}
 -- what these examples compute with
 opened : Unit {0}
 unfolding keep anyOf allBelow anyBelow sumBelow tab sameList _orElse_ unless first bit bits refusing hasRole usedLevel depthOf fits levelFits place
-    placeValue samePlace sameUser does roleTally timesListed timesDone repeats privilegeTally tally reached exclusionNumber counted grants permitted
+    placeValue samePlace sameUser does countsFor roleTally timesListed timesDone repeats privilegeTally tally reached exclusionNumber counted grants permitted
     isFirst isLast judges failing verdict standsIn openIn pastIn ends gives recordOf cleared sweep newTable grantOf tableAfter judgeFault judge
 opened = tt
 

@@ -18,16 +18,20 @@ sameUser u q = eqb (user q) u
 unfoldable pub does : Privilege → Request → Bool
 does p q = eqb (operation q) (p .operation) && eqb (target q) (p .target)
 
+-- a request counts for member i: its role is among the active ones (kind 1), or it is what the request does (kind 2)
+unfoldable pub countsFor : Exclusion → ℕ → Request → Bool
+countsFor x i q = cond (eqb (x .kind) 1) (hasRole (x .member i .operation) q) (does (x .member i) q)
+
 -- "Kind 1: how many member roles appear among all their active roles." No role is a member twice.
 unfoldable pub roleTally : Exclusion → List Request → ℕ
-roleTally x qs = sumBelow (x .n) (λ i. cond (anyOf (hasRole (x .member i .operation)) qs) 1 0)
+roleTally x qs = sumBelow (x .n) (λ i. cond (anyOf (countsFor x i) qs) 1 0)
 
--- how often a privilege is listed among the members, and how often it was done
-unfoldable pub timesListed : Exclusion → Privilege → ℕ
-timesListed x p = sumBelow (x .n) (λ j. cond (samePrivilege (x .member j) p) 1 0)
+-- how often member i is listed among the members, and how often it was done
+unfoldable pub timesListed : Exclusion → ℕ → ℕ
+timesListed x i = sumBelow (x .n) (λ j. cond (samePrivilege (x .member j) (x .member i)) 1 0)
 
-unfoldable pub timesDone : Privilege → List Request → ℕ
-timesDone p qs = length (keep (does p) qs)
+unfoldable pub timesDone : Exclusion → ℕ → List Request → ℕ
+timesDone x i qs = length (keep (countsFor x i) qs)
 
 -- "each different member": a member that repeats an earlier one is not counted again
 unfoldable pub repeats : Exclusion → ℕ → Bool
@@ -36,7 +40,7 @@ repeats x i = anyBelow i (λ j. samePrivilege (x .member j) (x .member i))
 -- "Kind 2: each different member counts min(times listed, times done), summed."
 unfoldable pub privilegeTally : Exclusion → List Request → ℕ
 privilegeTally x qs =
-    sumBelow (x .n) (λ i. cond (repeats x i) 0 (min (timesListed x (x .member i)) (timesDone (x .member i) qs)))
+    sumBelow (x .n) (λ i. cond (repeats x i) 0 (min (timesListed x i) (timesDone x i qs)))
 
 unfoldable pub tally : Exclusion → List Request → ℕ
 tally x qs = cond (eqb (x .kind) 1) (roleTally x qs) (privilegeTally x qs)

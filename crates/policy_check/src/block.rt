@@ -2,8 +2,8 @@
 ghost use mathlib.Core.Path.{_≡_};
 ghost use lib.ListN.{length};
 ghost use Rattle.format.specs.Block.{goodLength, goodCheck};
-use sums::sum::sum_words;
 use fields::field::u32_at;
+use sums::sum::sum_words;
 
 // The length is 512 times 1 to a limit.
 pub fn good_length(s: &[u8], most: usize) -> bool

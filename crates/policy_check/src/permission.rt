@@ -5,10 +5,10 @@ ghost use lib.ListN.{length};
 ghost use Rattle.format.specs.Policy.{permissionAt, entries, goodPermission, goodPermissionBytes, permissionFault};
 ghost use Rattle.format.specs.Code.{faultOf};
 ghost use Rattle.policy_check.specs.Parts.{entriesFault};
-use format::answer::Fault;
-use format::answer::Refusal;
 use fields::field::u16_at;
 use fields::field::zero_from;
+use format::answer::Fault;
+use format::answer::Refusal;
 
 // Entry i, from 0.
 fn good_permission(b: &[u8], i: usize) -> bool

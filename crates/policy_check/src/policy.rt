@@ -10,10 +10,10 @@ use crate::block::good_check;
 use crate::block::good_length;
 use crate::permission::permission_fault;
 use crate::rule::rule_fault;
-use format::answer::Fault;
-use format::answer::Refusal;
 use fields::field::u16_at;
 use fields::field::u32_at;
+use format::answer::Fault;
+use format::answer::Refusal;
 
 // The header of block k of `total`, where `seen` says that a permission block came before it.
 fn good_header(b: &[u8], k: u32, total: u32, seen: bool) -> bool

@@ -7,11 +7,11 @@ ghost use Rattle.format.specs.Code.{faultOf};
 ghost use Rattle.policy_check.specs.Parts.{goodLevelOf, goodLevels, stepAt};
 use exclusion_check::exclusion::exclusions_fault;
 use exclusion_check::privilege;
-use format::answer::Fault;
-use format::answer::Refusal;
 use fields::field::u16_at;
 use fields::field::wide;
 use fields::field::zero_from;
+use format::answer::Fault;
+use format::answer::Refusal;
 
 // A mark with the value beside it: fixed has one, every and each have none.
 fn good_mark(mark: u8, value: u32) -> bool

@@ -40,8 +40,8 @@ tally-none : (x : Exclusion) → tally x [] ≡ 0
 unfolding tally roleTally privilegeTally timesDone keep anyOf
 tally-none x = go (eqb (x .kind) 1)
   where
-    privileges : (i : ℕ) → cond (repeats x i) 0 (min (timesListed x (x .member i)) 0) ≡ 0
-    privileges i = rw (min-zero (timesListed x (x .member i))) (both (repeats x i))
+    privileges : (i : ℕ) → cond (repeats x i) 0 (min (timesListed x i) 0) ≡ 0
+    privileges i = rw (min-zero (timesListed x i)) (both (repeats x i))
       where
         both : (b : Bool) → _≡_ {A = ℕ} (cond b 0 0) 0
         both true = refl

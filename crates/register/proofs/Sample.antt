@@ -17,7 +17,7 @@ use Rattle.format.specs.Fits.{levelFits, fits, placeValue, place, samePlace}
 use Rattle.format.specs.Policy.{goodPermission, goodPermissionBytes, permissionFault, goodPolicyHeader, policyBlockFault, policyFault, ruleCount, permissionsAt, policyOf, stamp}
 use Rattle.format.specs.Table.{goodMarks, goodRecord, recordAt, gap, goodTableHeader, goodStamp, tableBlockFault, tableLengthFault, tableFault, recordsOf, recordImage, blockImage, tableImage, freshTable}
 use Rattle.format.specs.Calls.{checkPolicy}
-use Rattle.judge.specs.Tally.{sameUser, does, roleTally, timesListed, timesDone, repeats, privilegeTally, tally, reached, exclusionNumber, counted}
+use Rattle.judge.specs.Tally.{sameUser, does, countsFor, roleTally, timesListed, timesDone, repeats, privilegeTally, tally, reached, exclusionNumber, counted}
 use Rattle.judge.specs.Verdict.{grants, permitted, isFirst, isLast, judges, failing, verdict}
 use Rattle.judge.specs.NewTable.{standsIn, openIn, pastIn, ends, gives, recordOf, cleared, sweep, newTable, grantOf, tableAfter, judgeFault, judge}
 use Rattle.judge.specs.Decide.{decideFault, decide}
@@ -32,5 +32,5 @@ pub record Session : Type 0 where
   pub register : answers (registerStep (policyOf samplePolicy) (capacity 1)) [] sampleRequests ≡ sampleAnswers
 
 pub session : Session
-unfolding keep anyOf nonEmpty allBelow anyBelow tab sumBelow sameList flatten _orElse_ unless first zeroFrom bit bits addWord addWords sums words refusing accepting goodLength checkOf goodCheck sumBytes sealed hasRole usedLevel blankLevel depthOf goodContext goodRequest requestFault ruleAt goodMark goodLevel blankRuleLevel goodStep goodSteps goodRule goodRoles goodPrivileges goodExclusion blankExclusion goodRuleBytes goodExclusionAt ruleFault levelFits fits placeValue place samePlace goodPermission goodPermissionBytes permissionFault goodPolicyHeader policyBlockFault policyFault ruleCount permissionsAt policyOf stamp goodMarks goodRecord recordAt gap goodTableHeader goodStamp tableBlockFault tableLengthFault tableFault recordsOf recordImage blockImage tableImage freshTable checkPolicy sameUser does roleTally timesListed timesDone repeats privilegeTally tally reached exclusionNumber counted grants permitted isFirst isLast judges failing verdict standsIn openIn pastIn ends gives recordOf cleared sweep newTable grantOf tableAfter judgeFault judge decideFault decide samplePolicy sampleRequests sampleAnswers numbered entriesOf afterLatest fromEarliest ofPlace run runOf openRun pastRun isIn lies liesInSome heldOf removedOf recordedOf registerFault granted registerStep answers
+unfolding keep anyOf nonEmpty allBelow anyBelow tab sumBelow sameList flatten _orElse_ unless first zeroFrom bit bits addWord addWords sums words refusing accepting goodLength checkOf goodCheck sumBytes sealed hasRole usedLevel blankLevel depthOf goodContext goodRequest requestFault ruleAt goodMark goodLevel blankRuleLevel goodStep goodSteps goodRule goodRoles goodPrivileges goodExclusion blankExclusion goodRuleBytes goodExclusionAt ruleFault levelFits fits placeValue place samePlace goodPermission goodPermissionBytes permissionFault goodPolicyHeader policyBlockFault policyFault ruleCount permissionsAt policyOf stamp goodMarks goodRecord recordAt gap goodTableHeader goodStamp tableBlockFault tableLengthFault tableFault recordsOf recordImage blockImage tableImage freshTable checkPolicy sameUser does countsFor roleTally timesListed timesDone repeats privilegeTally tally reached exclusionNumber counted grants permitted isFirst isLast judges failing verdict standsIn openIn pastIn ends gives recordOf cleared sweep newTable grantOf tableAfter judgeFault judge decideFault decide samplePolicy sampleRequests sampleAnswers numbered entriesOf afterLatest fromEarliest ofPlace run runOf openRun pastRun isIn lies liesInSome heldOf removedOf recordedOf registerFault granted registerStep answers
 session = record { policy = refl; judge = refl; register = refl }

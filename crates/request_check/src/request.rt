@@ -10,10 +10,10 @@ ghost use Rattle.request_check.specs.RequestWords.{doneWord, usedWord, g
 ghost use Rattle.format.specs.Code.{faultOf};
 use exclusion_check::privilege;
 use exclusion_check::privilege::Privilege;
+use fields::field::u32_at;
+use fields::number::User;
 use format::answer::Fault;
 use format::answer::Refusal;
-use fields::number::User;
-use fields::field::u32_at;
 
 // Who asks.
 pub fn user(s: &[u8], at: usize) -> User

@@ -5,8 +5,8 @@ ghost use lib.ListN.{length};
 ghost use Rattle.words.specs.Bytes.{u32At, part};
 ghost use Rattle.words.specs.Sums.{sums, words, addWord, wrap};
 ghost use Rattle.sums.specs.Code.{sumsOf, wordFrom, fourOf, fours, together as togetherOf};
-use std::num::wrapping_add_u32;
 use fields::field::u32_at;
+use std::num::wrapping_add_u32;
 
 // The state of the two sums.
 pub struct Sum {

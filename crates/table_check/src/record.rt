@@ -8,8 +8,8 @@ ghost use Rattle.format.specs.Table.{goodRecord};
 ghost use Rattle.format.specs.Place.{recordFrom};
 ghost use Rattle.table_check.specs.Shapes.{Shapes, marksWithin, marksFit};
 use crate::shapes::shape_fits;
-use request_check::request::good_request;
 use fields::field::u32_at;
+use request_check::request::good_request;
 
 // The two words at a place as one number.
 fn pair_at(s: &[u8], at: usize) -> u64

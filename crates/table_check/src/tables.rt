@@ -13,14 +13,14 @@ ghost use Rattle.table_check.specs.Shapes.{Shapes};
 ghost use Rattle.format.specs.Code.{faultOf};
 use crate::record::good_record;
 use crate::shapes::shapes_of;
+use fields::field::u16_at;
+use fields::field::u32_at;
+use fields::field::zero_from;
 use format::answer::Fault;
 use format::answer::Refusal;
 use policy_check::block::good_check;
 use policy_check::block::good_length;
 use sums::sum::Sum;
-use fields::field::u16_at;
-use fields::field::u32_at;
-use fields::field::zero_from;
 
 // Kind, number, total and count of block k of n. Records may stand in it only if no block before it is short of one.
 fn good_heading(b: &[u8], k: u32, n: u32, short: bool) -> bool

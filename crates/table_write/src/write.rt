@@ -11,11 +11,11 @@ ghost use Rattle.format.specs.Block.{blocks, block as blockAt, goodLength, sumB
 ghost use Rattle.format.specs.Table.{recordAt, blockImage, tableImage};
 ghost use Rattle.format.specs.Place.{recordPlace, recordsHere};
 ghost use Rattle.table_write.specs.Writing.{over, numbersImage, headerImage, countIn, ImageOutside};
-use sums::sum::Sum;
-use sums::sum::sum_words;
 use fields::field::put_u16;
 use fields::field::put_u32;
 use fields::field::u32_at;
+use sums::sum::Sum;
+use sums::sum::sum_words;
 
 // ---- one block
 

@@ -15,13 +15,13 @@ ghost use Rattle.clearing.specs.Cleared.{leftBy, afterBy};
 ghost use Rattle.clearing.specs.Holding.{Holds, AllMarked};
 ghost use Rattle.update.specs.Compacted.{keepsAll, Settled, Compacted};
 use clearing::clearing::cleared_marks;
+use fields::field::u32_at;
 use places::masks::Each;
 use sums::sum::Sum;
 use table_write::write::move_record;
 use table_write::write::put_record;
 use table_write::write::record_place;
 use table_write::write::seal_blocks;
-use fields::field::u32_at;
 
 // ---- the records
 

@@ -10,10 +10,10 @@ ghost use Rattle.judge.specs.Verdict.{grants as grantsOf, permitted as permitte
 ghost use Rattle.verdict.specs.Code.{entriesOf, EntriesFit};
 use exclusion_check::privilege;
 use exclusion_tally::counting::has_role;
-use fields::number::Role;
-use request_check::request;
 use fields::field::u16_at;
 use fields::field::u32_at;
+use fields::number::Role;
+use request_check::request;
 
 // Entry i of a permission block grants the request: one of its roles, its operation and its target.
 fn grants(b: &[u8], i: usize, q: &[u8]) -> bool

@@ -10,10 +10,10 @@ ghost use Rattle.format.specs.Policy.{policyFault, policyOf, ruleCount};
 ghost use Rattle.judge.specs.Verdict.{isFirst};
 ghost use Rattle.history.specs.Code.{fittingIn};
 ghost use Rattle.verdict.specs.Code.{judgingBy};
-use request_check::fits::fits;
-use request_check::steps::is_first;
 use fields::field::bit;
 use fields::field::flag;
+use request_check::fits::fits;
+use request_check::steps::is_first;
 
 // Rule i, whose block is b, judges: it fits, and it has no first step, or this is it, or the run place is open.
 fn rule_judges(b: &[u8], i: u32, fitting: u32, opens: u32, q: &[u8]) -> bool

@@ -17,13 +17,13 @@ use crate::permits::permitted;
 use crate::rules::fitting;
 use crate::rules::judging;
 use exclusion_tally::counting::reaches;
+use fields::field::bit;
+use fields::field::wide;
 use format::answer::Fault;
 use format::answer::Refusal;
 use history::scan::scan;
 use history::scan::take;
 use tally::tallies::active_roles;
-use fields::field::bit;
-use fields::field::wide;
 
 // The first failing exclusion: its rule and itself, each by its index from 0.
 pub enum Failing {
