@@ -1,3 +1,9 @@
-// Numbers in bytes, and the types of the numbers that must not mix.
+// What readers and writers of the images share: numbers in bytes, the numbers that must not mix, the sizes and places of
+// document 01's layout, and the fields of a request.
 pub mod field;
+pub mod layout;
 pub mod number;
+pub mod privilege;
+pub mod request;
+pub mod sets;
+pub mod tables;

@@ -7,7 +7,7 @@ pub struct User(pub u32);
 pub struct Role(pub u32);
 
 // The number of an operation, from 1.
-pub struct Operation(pub u32);
+pub struct Operation(pub u16);
 
 // The number of a target, from 1.
-pub struct Target(pub u32);
+pub struct Target(pub u16);
