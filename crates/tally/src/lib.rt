@@ -1,4 +1,4 @@
-// What one user did in the run places of a request, for all rules at once.
-pub mod counts;
-pub mod groups;
+// Step 3 of the judge: the tally of an exclusion.
+pub mod counting;
+pub mod past;
 pub mod tallies;

@@ -1,92 +1,108 @@
-// "The tally of an exclusion takes in the records one by one": here for the exclusions of all rules at once.
+// "The tally of an exclusion takes in the records one by one."
 ghost use mathlib.Core.Path.{_≡_};
-ghost use mathlib.Core.Bool.{cond};
-ghost use Prim.Native.Nat.{_+_, _*_, _<_, _≤_};
+ghost use mathlib.Core.Bool.{true, cond};
+ghost use mathlib.Core.List.{List, [], _∷_, _++_};
+ghost use Prim.Native.Nat.{ℕ, _≤_, _<_};
 ghost use lib.ListN.{length};
-ghost use lib.Dec.{eqb};
-ghost use Rattle.tally.specs.Code.{rolesIn, Full, Active, Trees, Grown};
-use crate::groups::find;
-use crate::groups::put_group;
-use crate::groups::raise;
-use exclusion_check::privilege::Privilege;
-use fields::field::bit;
-use fields::field::flag;
-use fields::field::without;
+ghost use Rattle.format.specs.Layout.{blockBytes, requestBytes};
+ghost use Rattle.format.specs.Request.{Request, roles as rolesOf};
+ghost use Rattle.format.specs.Rule.{Exclusion, exclusionAt, goodExclusion};
+ghost use Rattle.judge.specs.Tally.{reached as reachedOf};
+ghost use Rattle.fields.specs.Code.{packedOf, doneBy};
+ghost use Rattle.tally.specs.Code.{TallyOf, pastWords};
+use crate::counting::count_privileges;
+use crate::counting::count_roles;
+use crate::past::past_done;
+use crate::past::past_roles;
+use fields::field::wide;
+use fields::layout::EXCLUSION_BYTES;
+use fields::layout::EXCLUSION_KIND_AT;
+use fields::layout::EXCLUSION_M_AT;
+use fields::layout::EXCLUSION_N_AT;
+use fields::layout::MEMBERS_AT;
+use fields::layout::MEMBER_BYTES;
+use fields::privilege::Packed;
+use fields::privilege::Privilege;
+use fields::request;
+use fields::sets::Roles;
+use std::num::wrapping_add_u32;
 
-// What was taken in so far: how many groups of privileges there are, the rules for which any of it counts, and the roles of which nothing is
-// left to learn, as they were active under all of these rules.
+// What an exclusion counts of the requests taken in: for one of roles all the roles that were active, for one of privileges how often
+// each of its eight members was done. Members past its number are there too, and are not looked at.
 pub struct Tally {
-    pub groups: usize,
-    pub rules: u32,
-    pub full: u32,
+    pub of_roles: bool,
+    pub roles: Roles,
+    pub members: [Packed; 8],
+    pub times: [u32; 8],
 }
 
-// The full roles, where there are other rules than before: they may not have been active under a new one.
-fn still_full(full: u32, before: u32, rules: u32) -> u32
-    ensures { λ r. ⌜ r ≡ cond (eqb rules before) full 0 ⌝ }
+// 1 or 0: a count without a branch.
+fn one_if(b: bool) -> u32
+    ensures { λ r. ⌜ (r ≡ cond b 1 0) × (r ≤ 1) ⌝ }
 {
-    if rules == before { full } else { 0 }
+    if b { 1 } else { 0 }
 }
 
 impl Tally {
-    // Nothing taken in.
-    pub fn new() -> Self
-        ensures { λ r. ⌜ (r .groups ≡ 0) × (r .rules ≡ 0) × (r .full ≡ 0) ⌝ }
+    // The tally of exclusion e of a rule's block, with nothing taken in.
+    pub fn of(b: &[u8], e: usize) -> Self
+        requires { ⌜ (length (now b) ≡ blockBytes) × (e < 8) ⌝ }
+        ensures { λ r. ⌜ TallyOf (exclusionAt (now (b .entry)) e) [] r ⌝ }
     {
+        let mut members = [Packed(0); 8];
+        for k in 0..8usize {
+            members[k] = Privilege::read(b, MEMBERS_AT + EXCLUSION_BYTES * e + MEMBER_BYTES * k).packed();
+        }
         Tally {
-            groups: 0,
-            rules: 0,
-            full: 0,
+            of_roles: b[EXCLUSION_KIND_AT + EXCLUSION_BYTES * e] == 1,
+            roles: Roles(0),
+            members,
+            times: [0u32; 8],
         }
     }
 
-    // A record, or the request, that counts for these rules: its active roles.
-    pub fn add_roles(mut self, rules: u32, roles: u32, active: &mut [u32; 32]) -> Self
-        requires { ⌜ (length (now active) ≡ 32) × Full (self .rules) (self .full) (now active) ⌝ }
-        ensures { λ r. ⌜ (r .groups ≡ self .groups) × Active rules roles (r .rules) (r .full) (now (active .entry)) (now (active .exit)) ⌝ }
+    // Takes in a record, or the request that asks. The eight members are compared at once: the loop has no exit.
+    pub fn add(mut self, roles: Roles, done: Packed) -> Self
+        ensures { λ r. ⌜ ((x : Exclusion) (qs : List Request) (q : Request) → TallyOf x qs self → length qs < 4294967295 → roles .0 ≡ rolesOf q → done .0 ≡ packedOf (doneBy q) → TallyOf x (qs ++ (q ∷ [])) r) ⌝ }
     {
-        let ever = self.rules | rules;
-        self.full = still_full(self.full, self.rules, ever);
-        self.rules = ever;
-        let mut rest = without(roles, self.full);
-        while rest != 0 {
-            let k = u32::trailing_zeros(rest);
-            let all = active[k as usize] | rules;
-            active[k as usize] = all;
-            self.full = self.full | flag(all == ever, k);
-            rest = rest & (rest - 1);
-        }
-        self
-    }
-
-    // The same: its privilege.
-    pub fn add_privilege(mut self, rules: u32, done: Privilege, groups: &mut [u32]) -> Self
-        requires { ⌜ Trees (now groups) (self .groups) ⌝ }
-        requires { ⌜ (1024 + 7 * self .groups + 7 ≤ length (now groups)) × (self .groups < 65535) ⌝ }
-        ensures { λ r. ⌜ (r .rules ≡ self .rules) × (r .full ≡ self .full) × Grown rules (done .0) (now (groups .entry)) (self .groups) (now (groups .exit)) (r .groups) ⌝ }
-    {
-        let g = self.groups;
-        let place = find(groups, g, done);
-        if place.group < g {
-            raise(groups, place.group, rules);
+        if self.of_roles {
+            self.roles = self.roles.or(roles);
             return self;
         }
-        let at = place.at;
-        put_group(groups, g, rules, done);
-        groups[at] = (g + 1) as u32;
-        self.groups = g + 1;
+        for k in 0..8usize {
+            let member = self.members[k];
+            self.times[k] = wrapping_add_u32(self.times[k], one_if(member.0 == done.0));
+        }
         self
+    }
+
+    // "At m or more".
+    pub fn reached(self, b: &[u8], e: usize) -> bool
+        requires { ⌜ (length (now b) ≡ blockBytes) × (e < 8) × (goodExclusion (exclusionAt (now b) e) ≡ true) ⌝ }
+        ensures { λ r. ⌜ ((qs : List Request) → TallyOf (exclusionAt (now (b .entry)) e) qs self → length qs < 4294967296 → r ≡ reachedOf (exclusionAt (now (b .entry)) e) qs) ⌝ }
+    {
+        let n = wide(b[EXCLUSION_N_AT + EXCLUSION_BYTES * e]) as usize;
+        let m = wide(b[EXCLUSION_M_AT + EXCLUSION_BYTES * e]);
+        if self.of_roles {
+            return m <= count_roles(b, e, n, self.roles);
+        }
+        let members = self.members;
+        let times = self.times;
+        m <= count_privileges(members, times, n)
     }
 }
 
-// The roles that were active under rule i, role k at bit k - 1.
-pub fn active_roles(active: &[u32; 32], i: u32) -> u32
-    requires { ⌜ i < 32 ⌝ }
-    ensures { λ r. ⌜ r ≡ rolesIn (now (active .entry)) i ⌝ }
+// The request would bring its user to m of exclusion e: the tally takes in the past of the rule one by one, and the request last.
+pub fn reaches(b: &[u8], e: usize, past: &[u32], q: &[u8]) -> bool
+    requires { ⌜ (length (now b) ≡ blockBytes) × (e < 8) × (goodExclusion (exclusionAt (now b) e) ≡ true) ⌝ }
+    requires { ⌜ (length (now q) ≡ requestBytes) × (length (now past) ≤ 3840) ⌝ }
+    ensures { λ r. ⌜ ((qs : List Request) → now (past .entry) ≡ pastWords qs → r ≡ reachedOf (exclusionAt (now (b .entry)) e) (qs ++ (now (q .entry) ∷ []))) ⌝ }
 {
-    let mut roles = 0u32;
-    for k in 0..32u32 {
-        roles = roles + flag(bit(active[k as usize], i), k);
+    let mut tally = Tally::of(b, e);
+    let n = past.len() / 2;
+    for j in 0..n {
+        tally = tally.add(past_roles(past, j), past_done(past, j));
     }
-    roles
+    tally = tally.add(request::roles(q, 0), request::privilege(q, 0).packed());
+    tally.reached(b, e)
 }
