@@ -1,3 +1,1 @@
 pub mod RequestWords
-pub mod Privileges
-pub mod Levels

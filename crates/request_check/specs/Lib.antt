@@ -1,2 +1,1 @@
 pub mod RequestWords
-pub mod Levels

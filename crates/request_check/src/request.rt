@@ -1,43 +1,21 @@
-// The request: what its 28 bytes say, and its check. The words of 4 bytes are read whole, and those that hold two numbers are parted
-// after that: a table has many requests to look at.
+// The check of a request. The words of 4 bytes that hold a context's levels are read whole and parted after that: a table has many
+// requests to look at.
 ghost use mathlib.Core.Path.{_≡_};
 ghost use mathlib.Core.Bool.{cond};
 ghost use Prim.Native.Nat.{_+_, _≤_};
 ghost use lib.ListN.{length};
 ghost use Rattle.words.specs.Bytes.{part};
-ghost use Rattle.format.specs.Request.{user as userOf, roles as rolesOf, contextOf, depthOf, goodContext, goodRequest, requestFault};
-ghost use Rattle.request_check.specs.RequestWords.{doneWord, usedWord, goodLastWords, goodLevelWords, usedWords};
+ghost use Rattle.format.specs.Layout.{requestBytes, contextBytes};
+ghost use Rattle.format.specs.Request.{contextOf, depthOf, goodContext, goodRequest, requestFault};
+ghost use Rattle.request_check.specs.RequestWords.{usedWord, goodLastWords, goodLevelWords, usedWords};
 ghost use Rattle.format.specs.Code.{faultOf};
-use exclusion_check::privilege;
-use exclusion_check::privilege::Privilege;
 use fields::field::u32_at;
-use fields::number::User;
+use fields::layout::CONTEXT_AT;
+use fields::layout::CONTEXT_LEVEL_BYTES;
+use fields::layout::REQUEST_BYTES;
+use fields::request;
 use format::answer::Fault;
 use format::answer::Refusal;
-
-// Who asks.
-pub fn user(s: &[u8], at: usize) -> User
-    requires { ⌜ at + 28 ≤ length (now s) ⌝ }
-    ensures { λ r. ⌜ r .0 ≡ userOf (part (now (s .entry)) at 28) ⌝ }
-{
-    User(u32_at(s, at))
-}
-
-// The active roles, role k at bit k - 1.
-pub fn roles(s: &[u8], at: usize) -> u32
-    requires { ⌜ at + 28 ≤ length (now s) ⌝ }
-    ensures { λ r. ⌜ r ≡ rolesOf (part (now (s .entry)) at 28) ⌝ }
-{
-    u32_at(s, at + 4)
-}
-
-// What is to be done, and to what.
-pub fn privilege(s: &[u8], at: usize) -> Privilege
-    requires { ⌜ at + 28 ≤ length (now s) ⌝ }
-    ensures { λ r. ⌜ r .0 ≡ doneWord (part (now (s .entry)) at 28) ⌝ }
-{
-    privilege::read(s, at + 8)
-}
 
 // Both numbers of a word are from 1.
 fn used(word: u32) -> bool
@@ -94,34 +72,34 @@ fn used_levels(w: u32, x: u32, y: u32, z: u32) -> u32
 
 // The depth of the request's context.
 pub fn depth(s: &[u8], at: usize) -> u32
-    requires { ⌜ at + 28 ≤ length (now s) ⌝ }
-    ensures { λ r. ⌜ r ≡ depthOf (contextOf (part (now (s .entry)) at 28)) ⌝ }
+    requires { ⌜ at + requestBytes ≤ length (now s) ⌝ }
+    ensures { λ r. ⌜ r ≡ depthOf (contextOf (part (now (s .entry)) at requestBytes)) ⌝ }
 {
     used_levels(
-        u32_at(s, at + 12),
-        u32_at(s, at + 16),
-        u32_at(s, at + 20),
-        u32_at(s, at + 24),
+        level_word(s, at, 0),
+        level_word(s, at, 1),
+        level_word(s, at, 2),
+        level_word(s, at, 3),
     )
 }
 
 // The context of a request, which begins at its byte 12.
 fn good_context(s: &[u8], at: usize) -> bool
-    requires { ⌜ at + 16 ≤ length (now s) ⌝ }
-    ensures { λ r. ⌜ r ≡ goodContext (part (now (s .entry)) at 16) ⌝ }
+    requires { ⌜ at + contextBytes ≤ length (now s) ⌝ }
+    ensures { λ r. ⌜ r ≡ goodContext (part (now (s .entry)) at contextBytes) ⌝ }
 {
     good_levels(
-        u32_at(s, at),
-        u32_at(s, at + 4),
-        u32_at(s, at + 8),
-        u32_at(s, at + 12),
+        level_word(s, at, 0),
+        level_word(s, at, 1),
+        level_word(s, at, 2),
+        level_word(s, at, 3),
     )
 }
 
 // The request's fields.
 pub fn good_request(s: &[u8], at: usize) -> bool
-    requires { ⌜ at + 28 ≤ length (now s) ⌝ }
-    ensures { λ r. ⌜ r ≡ goodRequest (part (now (s .entry)) at 28) ⌝ }
+    requires { ⌜ at + requestBytes ≤ length (now s) ⌝ }
+    ensures { λ r. ⌜ r ≡ goodRequest (part (now (s .entry)) at requestBytes) ⌝ }
 {
     if u32_at(s, at) == 0 {
         return false;

@@ -19,8 +19,8 @@ use fields::layout::EXCLUSION_BYTES;
 use fields::layout::EXCLUSION_KIND_AT;
 use fields::layout::EXCLUSION_M_AT;
 use fields::layout::EXCLUSION_N_AT;
-use fields::layout::MEMBERS_AT;
 use fields::layout::MEMBER_BYTES;
+use fields::layout::MEMBERS_AT;
 use fields::privilege::Packed;
 use fields::privilege::Privilege;
 use fields::request;
@@ -51,7 +51,10 @@ impl Tally {
     {
         let mut members = [Packed(0); 8];
         for k in 0..8usize {
-            members[k] = Privilege::read(b, MEMBERS_AT + EXCLUSION_BYTES * e + MEMBER_BYTES * k).packed();
+            members[k] = Privilege::read(
+                b,
+                MEMBERS_AT + EXCLUSION_BYTES * e + MEMBER_BYTES * k,
+            ).packed();
         }
         Tally {
             of_roles: b[EXCLUSION_KIND_AT + EXCLUSION_BYTES * e] == 1,

@@ -1,0 +1,52 @@
+-- A rule's levels beside those of requests: the fields that the code reads, and two requests of one run place.
+-- Assumes nothing.
+use Prim.Native.Nat.{ℕ, _+_, _*_, _/_, _%_, _<_}
+use native.Mathlib.Omega.{arith}
+use mathlib.Core.Path.{_≡_, refl, ap, _∙_}
+use mathlib.Core.Bool.{Bool, true, false, cond, not, _||_}
+use mathlib.Core.List.{List}
+use lib.ListN.{getD}
+use lib.Dec.{eqb}
+use Rattle.words.specs.Lists.{allBelow}
+use Rattle.words.specs.Bytes.{u16At, u32At, part}
+use Rattle.word_laws.proofs.Bytes.{Byte}
+use Rattle.word_laws.proofs.Parts.{u16At-part}
+use Rattle.word_laws.proofs.Tests.{allBelow-same}
+use Rattle.word_laws.proofs.Same.{same-tabs}
+use Rattle.format.specs.Request.{Request, contextOf, levelType, levelValue}
+use Rattle.format.specs.Rule.{Rule, Level}
+use Rattle.format.specs.Fits.{placeValue, place, samePlace}
+use Rattle.matching.specs.Levels.{sameAt}
+use Rattle.request_check.proofs.RequestWords.{context-at, level-type, level-value}
+
+-- ---- the levels of a request at a place
+
+module _ (s : List ℕ) (at i : ℕ) (four : i < 4) where
+  pub value-at : levelValue (contextOf (part s at 28)) i ≡ u16At s (at + 14 + 4 * i)
+  value-at =
+      rw (context-at s at)
+      (u16At-part s (at + 12) 16 (4 * i + 2) (omega arith) ∙ ap (u16At s) (omega arith))
+
+  module _ (bytes : (j : ℕ) → Byte (getD s j 0)) where
+    pub type-word : levelType (contextOf (part s at 28)) i ≡ u32At s (at + 12 + 4 * i) % 65536
+    type-word = rw (context-at s at) (level-type s bytes (at + 12) i four)
+
+    pub value-word : levelValue (contextOf (part s at 28)) i ≡ u32At s (at + 12 + 4 * i) / 65536
+    value-word = rw (context-at s at) (level-value s bytes (at + 12) i four)
+
+-- ---- run places
+
+same-value : (l : Level) (x y : ℕ) → eqb (placeValue l x) (placeValue l y) ≡ not (eqb (l .mark) 3) || eqb x y
+unfolding placeValue
+same-value l x y = go (eqb (l .mark) 3)
+  where
+    go : (b : Bool) → eqb (cond b x 0) (cond b y 0) ≡ not b || eqb x y
+    go true = refl
+    go false = refl
+
+pub same-place : (r : Rule) (q p : Request) → samePlace r q p ≡ allBelow (r .depth) (sameAt r q p)
+unfolding samePlace place
+same-place r q p =
+    same-tabs (λ i. placeValue (r .level i) (levelValue (contextOf q) i)) (λ i. placeValue (r .level i) (levelValue (contextOf p) i)) (r .depth)
+    ∙ allBelow-same (r .depth) (λ i. eqb (placeValue (r .level i) (levelValue (contextOf q) i)) (placeValue (r .level i) (levelValue (contextOf p) i)))
+    (sameAt r q p) (λ i h. same-value (r .level i) (levelValue (contextOf q) i) (levelValue (contextOf p) i))

@@ -1,0 +1,40 @@
+-- Run places by masks: a number stands for a set of rules, rule i + 1 at bit i. Two contexts lie in different run places of a rule
+-- exactly where they differ in value at one of its levels with mark 3, each; so four masks, one a level, tell all rules at once.
+-- Assumes nothing.
+use Prim.Native.Nat.{ℕ}
+use mathlib.Core.Path.{_≡_}
+use mathlib.Core.Bool.{Bool, cond, not, _&&_}
+use lib.Bits.{bitOr}
+use lib.Dec.{eqb, ltb}
+use Rattle.words.specs.Bytes.{bits}
+use Rattle.format.specs.Request.{Request, contextOf, levelValue}
+use Rattle.format.specs.Fits.{samePlace}
+use Rattle.format.specs.Policy.{Policy}
+use Rattle.matching.specs.declared.masks.Each.{Each}
+
+-- the rule of index i has mark 3, "each", at level l: one of the levels that its depth counts
+unfoldable pub isEach : Policy → ℕ → ℕ → Bool
+isEach p l i = ltb l (p .rule i .depth) && eqb (p .rule i .level l .mark) 3
+
+-- the rules that have it there
+unfoldable pub eachAt : Policy → ℕ → ℕ
+eachAt p l = bits (p .rules) (isEach p l)
+
+-- the code's four masks are those of a policy's four levels
+pub record EachOf (p : Policy) (e : Each) : Type 0 where
+  pub at-first : e .first .0 ≡ eachAt p 0
+  pub at-second : e .second .0 ≡ eachAt p 1
+  pub at-third : e .third .0 ≡ eachAt p 2
+  pub at-fourth : e .fourth .0 ≡ eachAt p 3
+
+-- the rules under which two requests have different run places
+unfoldable pub apartIn : Policy → Request → Request → ℕ
+apartIn p q x = bits (p .rules) (λ i. not (samePlace (p .rule i) q x))
+
+-- what the code computes: a level's mask where the two requests differ in value at that level, and all four joined
+abbrev pub apartAt : Request → Request → ℕ → ℕ → ℕ
+apartAt q x l mask = cond (eqb (levelValue (contextOf q) l) (levelValue (contextOf x) l)) 0 mask
+
+unfoldable pub apartBy : Each → Request → Request → ℕ
+apartBy e q x =
+    bitOr (bitOr (bitOr (apartAt q x 0 (e .first .0)) (apartAt q x 1 (e .second .0))) (apartAt q x 2 (e .third .0))) (apartAt q x 3 (e .fourth .0))
