@@ -3,13 +3,6 @@
 use Prim.Native.Nat.{ℕ, _+_, _/_, _%_}
 use mathlib.Core.Bool.{Bool, cond, not, _&&_, _||_}
 use lib.Dec.{eqb}
-use Rattle.words.specs.Bytes.{u32At}
-use Rattle.format.specs.Layout.{operationAt}
-use Rattle.format.specs.Request.{Request}
-
--- operation and target in one number, as their bytes stand
-abbrev pub doneWord : Request → ℕ
-doneWord q = u32At q operationAt
 
 -- both numbers of a word are from 1
 unfoldable pub usedWord : ℕ → Bool

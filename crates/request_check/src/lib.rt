@@ -1,3 +1,2 @@
-pub mod fits;
+// The check of a request.
 pub mod request;
-pub mod steps;

@@ -2,9 +2,9 @@
 // requests to look at.
 ghost use mathlib.Core.Path.{_≡_};
 ghost use mathlib.Core.Bool.{cond};
-ghost use Prim.Native.Nat.{_+_, _≤_};
+ghost use Prim.Native.Nat.{_+_, _*_, _<_, _≤_};
 ghost use lib.ListN.{length};
-ghost use Rattle.words.specs.Bytes.{part};
+ghost use Rattle.words.specs.Bytes.{part, u32At};
 ghost use Rattle.format.specs.Layout.{requestBytes, contextBytes};
 ghost use Rattle.format.specs.Request.{contextOf, depthOf, goodContext, goodRequest, requestFault};
 ghost use Rattle.request_check.specs.RequestWords.{usedWord, goodLastWords, goodLevelWords, usedWords};
@@ -70,21 +70,30 @@ fn used_levels(w: u32, x: u32, y: u32, z: u32) -> u32
     used_count(w) + used_count(x) + used_count(y) + used_count(z)
 }
 
+// The word of level i of the context that begins at a byte: its type and its value.
+fn level_word(s: &[u8], at: usize, i: usize) -> u32
+    requires { ⌜ (at + contextBytes ≤ length (now s)) × (i < 4) ⌝ }
+    ensures { λ r. ⌜ r ≡ u32At (now (s .entry)) (at + 4 * i) ⌝ }
+{
+    u32_at(s, at + CONTEXT_LEVEL_BYTES * i)
+}
+
 // The depth of the request's context.
 pub fn depth(s: &[u8], at: usize) -> u32
     requires { ⌜ at + requestBytes ≤ length (now s) ⌝ }
     ensures { λ r. ⌜ r ≡ depthOf (contextOf (part (now (s .entry)) at requestBytes)) ⌝ }
 {
+    let from = at + CONTEXT_AT;
     used_levels(
-        level_word(s, at, 0),
-        level_word(s, at, 1),
-        level_word(s, at, 2),
-        level_word(s, at, 3),
+        level_word(s, from, 0),
+        level_word(s, from, 1),
+        level_word(s, from, 2),
+        level_word(s, from, 3),
     )
 }
 
-// The context of a request, which begins at its byte 12.
-fn good_context(s: &[u8], at: usize) -> bool
+// The context of 16 bytes that begins at a byte.
+pub fn good_context(s: &[u8], at: usize) -> bool
     requires { ⌜ at + contextBytes ≤ length (now s) ⌝ }
     ensures { λ r. ⌜ r ≡ goodContext (part (now (s .entry)) at contextBytes) ⌝ }
 {
@@ -101,23 +110,23 @@ pub fn good_request(s: &[u8], at: usize) -> bool
     requires { ⌜ at + requestBytes ≤ length (now s) ⌝ }
     ensures { λ r. ⌜ r ≡ goodRequest (part (now (s .entry)) at requestBytes) ⌝ }
 {
-    if u32_at(s, at) == 0 {
+    if request::user(s, at).0 == 0 {
         return false;
     }
-    if u32_at(s, at + 4) == 0 {
+    if request::roles(s, at).0 == 0 {
         return false;
     }
-    if !used(privilege::read(s, at + 8).0) {
+    if !request::privilege(s, at).full() {
         return false;
     }
-    good_context(s, at + 12)
+    good_context(s, at + CONTEXT_AT)
 }
 
 // The check of a request: its length, and then its fields.
 pub fn request_fault(q: &[u8]) -> Fault
     ensures { λ r. ⌜ faultOf r ≡ requestFault (now (q .entry)) ⌝ }
 {
-    if q.len() != 28 {
+    if q.len() != REQUEST_BYTES {
         return Fault::At(Refusal {
             number: 21,
             first: 0,
