@@ -7,7 +7,7 @@ use lib.ListN.{length, take}
 use lib.Dec.{eqb, leb}
 use Rattle.words.specs.Bytes.{u16At, u32At, bytes4, part}
 use Rattle.words.specs.Sums.{Sums, sums, words}
-use Rattle.format.specs.Layout.{blockBytes, checkAt}
+use Rattle.format.specs.Layout.{blockBytes, checkAt, checkBAt}
 
 -- how many whole blocks an image has
 abbrev pub blocks : List ℕ → ℕ
@@ -37,7 +37,7 @@ checkOf b = sums (words (take checkAt b))
 
 -- "The block stores a, then b."
 unfoldable pub goodCheck : List ℕ → Bool
-goodCheck b = eqb (checkOf b .a) (u32At b 504) && eqb (checkOf b .b) (u32At b 508)
+goodCheck b = eqb (checkOf b .a) (u32At b checkAt) && eqb (checkOf b .b) (u32At b checkBAt)
 
 -- the bytes of two sums, as a block stores them
 unfoldable pub sumBytes : Sums → List ℕ

@@ -10,7 +10,8 @@ use Rattle.words.specs.First.{_orElse_, unless, first}
 use Rattle.words.specs.Bytes.{u16At, zeroFrom}
 use Rattle.words.specs.Sums.{Sums, sums, words}
 use Rattle.format.specs.Answer.{Refusal, refusal}
-use Rattle.format.specs.Layout.{ruleKind, permissionKind, policyBlocks, mostRules, highestRole}
+use Rattle.format.specs.Layout.{ruleKind, permissionKind, policyBlocks, mostRules, highestRole, countAt, spareAt, spareBytes}
+use Rattle.format.specs.Layout.{mostEntries, entriesBytes, entryBytes, entriesAt, entryOperationAt, entryTargetAt, entryPadAt}
 use Rattle.format.specs.Block.{blocks, block, kind, number, total, goodLength, goodCheck}
 use Rattle.format.specs.Rule.{Rule, ruleAt, ruleFault}
 
@@ -27,10 +28,10 @@ pub record Permission : Type 0 where
 abbrev pub permissionAt : List ℕ → ℕ → Permission
 permissionAt b i =
     record {
-      role = u16At b (16 + 8 * i);
-      operation = u16At b (18 + 8 * i);
-      target = u16At b (20 + 8 * i);
-      pad = u16At b (22 + 8 * i);
+      role = u16At b (entriesAt + entryBytes * i);
+      operation = u16At b (entryOperationAt + entryBytes * i);
+      target = u16At b (entryTargetAt + entryBytes * i);
+      pad = u16At b (entryPadAt + entryBytes * i);
     }
 
 unfoldable pub goodPermission : Permission → Bool
@@ -43,11 +44,14 @@ goodPermission e =
 
 -- "8-9 number of entries, 0 to 61"
 abbrev pub entries : List ℕ → ℕ
-entries b = u16At b 8
+entries b = u16At b countAt
 
 -- what stands outside the counted entries: the number of them, and bytes that are not named
 unfoldable pub goodPermissionBytes : List ℕ → Bool
-goodPermissionBytes b = leb (entries b) 61 && zeroFrom b 10 6 && zeroFrom b (16 + 8 * entries b) (488 - 8 * entries b)
+goodPermissionBytes b =
+    leb (entries b) mostEntries
+    && zeroFrom b spareAt spareBytes
+    && zeroFrom b (entriesAt + entryBytes * entries b) (entriesBytes - entryBytes * entries b)
 
 -- "6: a permission block's other bytes"; "in 6 a fault outside the counted entries, bytes after them too, gives 0 and comes first"
 unfoldable pub permissionFault : ℕ → List ℕ → Option Refusal

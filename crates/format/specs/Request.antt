@@ -11,7 +11,7 @@ use Rattle.words.specs.Lists.{allBelow, sumBelow}
 use Rattle.words.specs.First.{_orElse_, unless}
 use Rattle.words.specs.Bytes.{u16At, u32At, part, bit}
 use Rattle.format.specs.Answer.{Refusal, refusal}
-use Rattle.format.specs.Layout.{requestBytes, rolesAt, operationAt, targetAt, contextAt}
+use Rattle.format.specs.Layout.{requestBytes, rolesAt, operationAt, targetAt, contextAt, contextBytes, contextLevelBytes, mostLevels}
 
 abbrev pub Request : Type 0
 Request = List ℕ
@@ -36,14 +36,14 @@ hasRole k q = bit (k - 1) (roles q)
 
 -- the 16 bytes of a request's context
 abbrev pub contextOf : Request → List ℕ
-contextOf q = part q contextAt 16
+contextOf q = part q contextAt contextBytes
 
 -- level i of a context, from 0
 abbrev pub levelType : List ℕ → ℕ → ℕ
-levelType c i = u16At c (4 * i)
+levelType c i = u16At c (contextLevelBytes * i)
 
 abbrev pub levelValue : List ℕ → ℕ → ℕ
-levelValue c i = u16At c (4 * i + 2)
+levelValue c i = u16At c (contextLevelBytes * i + 2)
 
 -- "both numbers of a used level are from 1"
 unfoldable pub usedLevel : List ℕ → ℕ → Bool
@@ -55,11 +55,11 @@ blankLevel c i = eqb (levelType c i) 0 && eqb (levelValue c i) 0
 
 -- how many of the four levels are used: the context's depth
 unfoldable pub depthOf : List ℕ → ℕ
-depthOf c = sumBelow 4 (λ i. cond (usedLevel c i) 1 0)
+depthOf c = sumBelow mostLevels (λ i. cond (usedLevel c i) 1 0)
 
 -- "Used levels come first; the others are zero." A level is used or blank, and a used one stands behind used ones alone.
 unfoldable pub goodContext : List ℕ → Bool
-goodContext c = allBelow 4 (λ i. blankLevel c i || (usedLevel c i && allBelow i (usedLevel c)))
+goodContext c = allBelow mostLevels (λ i. blankLevel c i || (usedLevel c i && allBelow i (usedLevel c)))
 
 -- ---- the check
 

@@ -9,7 +9,9 @@ use Rattle.words.specs.Lists.{allBelow}
 use Rattle.words.specs.First.{_orElse_, unless, first}
 use Rattle.words.specs.Bytes.{byteAt, u16At, zeroFrom}
 use Rattle.format.specs.Answer.{Refusal, refusal}
-use Rattle.format.specs.Layout.{highestRole}
+use Rattle.format.specs.Layout.{highestRole, depthAt, exclusionsAt, firstFlagAt, lastFlagAt, firstStepAt, lastStepAt}
+use Rattle.format.specs.Layout.{mostLevels, levelBytes, typeAt, markAt, levelPadAt, valueAt, levelTailAt}
+use Rattle.format.specs.Layout.{mostExclusions, exclusionBytes, kindAt, mAt, nAt, exclusionPadAt, membersAt, mostMembers, memberBytes}
 
 -- ---- what the bytes say
 
@@ -51,11 +53,11 @@ pub record Rule : Type 0 where
 abbrev pub levelAt : List ℕ → ℕ → Level
 levelAt b i =
     record {
-      type = u16At b (16 + 8 * i);
-      mark = byteAt b (18 + 8 * i);
-      pad = byteAt b (19 + 8 * i);
-      value = u16At b (20 + 8 * i);
-      tail = u16At b (22 + 8 * i);
+      type = u16At b (typeAt + levelBytes * i);
+      mark = byteAt b (markAt + levelBytes * i);
+      pad = byteAt b (levelPadAt + levelBytes * i);
+      value = u16At b (valueAt + levelBytes * i);
+      tail = u16At b (levelTailAt + levelBytes * i);
     }
 
 abbrev pub privilegeAt : List ℕ → ℕ → Privilege
@@ -64,22 +66,22 @@ privilegeAt b at = record { operation = u16At b at; target = u16At b (at + 2) }
 abbrev pub exclusionAt : List ℕ → ℕ → Exclusion
 exclusionAt b e =
     record {
-      kind = byteAt b (56 + 36 * e);
-      m = byteAt b (57 + 36 * e);
-      n = byteAt b (58 + 36 * e);
-      pad = byteAt b (59 + 36 * e);
-      member = λ i. privilegeAt b (60 + 36 * e + 4 * i);
+      kind = byteAt b (kindAt + exclusionBytes * e);
+      m = byteAt b (mAt + exclusionBytes * e);
+      n = byteAt b (nAt + exclusionBytes * e);
+      pad = byteAt b (exclusionPadAt + exclusionBytes * e);
+      member = λ i. privilegeAt b (membersAt + exclusionBytes * e + memberBytes * i);
     }
 
 -- the rule of a rule block
 unfoldable pub ruleAt : List ℕ → Rule
 ruleAt b =
     record {
-      depth = byteAt b 8;
-      exclusions = byteAt b 9;
+      depth = byteAt b depthAt;
+      exclusions = byteAt b exclusionsAt;
       level = levelAt b;
-      firstStep = record { flag = byteAt b 10; privilege = privilegeAt b 48 };
-      lastStep = record { flag = byteAt b 11; privilege = privilegeAt b 52 };
+      firstStep = record { flag = byteAt b firstFlagAt; privilege = privilegeAt b firstStepAt };
+      lastStep = record { flag = byteAt b lastFlagAt; privilege = privilegeAt b lastStepAt };
       exclusion = exclusionAt b;
     }
 
@@ -122,10 +124,10 @@ goodSteps f l = goodStep f && goodStep l && not (isSet f && isSet l && samePrivi
 -- "depth 0 to 4", "exclusions, 1 to 8", the levels and the steps
 unfoldable pub goodRule : Rule → Bool
 goodRule r =
-    leb (r .depth) 4
+    leb (r .depth) mostLevels
     && leb 1 (r .exclusions)
-    && leb (r .exclusions) 8
-    && allBelow 4 (λ i. cond (ltb i (r .depth)) (goodLevel (r .level i)) (blankLevel (r .level i)))
+    && leb (r .exclusions) mostExclusions
+    && allBelow mostLevels (λ i. cond (ltb i (r .depth)) (goodLevel (r .level i)) (blankLevel (r .level i)))
     && goodSteps (r .firstStep) (r .lastStep)
 
 -- "Exclusion kind 1: members are roles 1 to 32 (2), zero (2), no role twice."
@@ -148,9 +150,9 @@ goodExclusion x =
     eqb (x .pad) 0
     && leb 2 (x .m)
     && leb (x .m) (x .n)
-    && leb (x .n) 8
+    && leb (x .n) mostMembers
     && ((eqb (x .kind) 1 && goodRoles x) || (eqb (x .kind) 2 && goodPrivileges x))
-    && allBelow 8 (λ i. ltb i (x .n) || blankPrivilege (x .member i))
+    && allBelow mostMembers (λ i. ltb i (x .n) || blankPrivilege (x .member i))
 
 -- "exclusions past their number, are zero"
 unfoldable pub blankExclusion : Exclusion → Bool
@@ -159,11 +161,12 @@ blankExclusion x =
     && eqb (x .m) 0
     && eqb (x .n) 0
     && eqb (x .pad) 0
-    && allBelow 8 (λ i. blankPrivilege (x .member i))
+    && allBelow mostMembers (λ i. blankPrivilege (x .member i))
 
 -- ---- the check: "4: rule's other bytes. 5: an exclusion."
 
--- what of a rule block is neither its first eight bytes, nor an exclusion, nor the check. "Bytes not named are zero."
+-- what of a rule block is neither its first eight bytes, nor an exclusion, nor the check. "Bytes not named are zero": bytes 12 to 15, between the
+-- flags and the levels, and 344 to 503, between the exclusions and the check.
 unfoldable pub goodRuleBytes : List ℕ → Bool
 goodRuleBytes b = goodRule (ruleAt b) && zeroFrom b 12 4 && zeroFrom b 344 160
 
@@ -175,4 +178,4 @@ goodExclusionAt r e = cond (ltb e (r .exclusions)) (goodExclusion (r .exclusion 
 unfoldable pub ruleFault : ℕ → List ℕ → Option Refusal
 ruleFault k b =
     unless (goodRuleBytes b) (refusal 4 k 0)
-    orElse first (λ e. unless (goodExclusionAt (ruleAt b) e) (refusal 5 k (e + 1))) 0 8
+    orElse first (λ e. unless (goodExclusionAt (ruleAt b) e) (refusal 5 k (e + 1))) 0 mostExclusions

@@ -11,7 +11,8 @@ use Rattle.words.specs.First.{_orElse_, unless, first}
 use Rattle.words.specs.Bytes.{u16At, u32At, bytes2, bytes4, zeros, part, zeroFrom, bit}
 use Rattle.words.specs.Sums.{Sums}
 use Rattle.format.specs.Answer.{Refusal, refusal}
-use Rattle.format.specs.Layout.{tableKind, tableBlocks, mostRules, requestBytes, recordBytes, recordsAt, blockRecords, capacity}
+use Rattle.format.specs.Layout.{tableKind, tableBlocks, mostRules, countAt, spareAt, spareBytes, stampAt, stampBAt}
+use Rattle.format.specs.Layout.{requestBytes, recordBytes, recordsAt, blockRecords}
 use Rattle.format.specs.Block.{blocks, block, kind, number, total, goodLength, goodCheck, sumBytes, sealed}
 use Rattle.format.specs.Request.{Request, goodRequest}
 use Rattle.format.specs.Fits.{fits}
@@ -43,7 +44,7 @@ goodRecord p r = goodRequest (r .request) && goodMarks p r && hasMark r
 
 -- "8-9 records here"
 abbrev pub count : List ℕ → ℕ
-count b = u16At b 8
+count b = u16At b countAt
 
 -- record i of a block, from 0: "15 records from byte 24"
 abbrev pub recordBytesAt : List ℕ → ℕ → List ℕ
@@ -68,12 +69,12 @@ goodTableHeader s k =
     && eqb (total (block s k)) (blocks s)
     && leb (count (block s k)) blockRecords
     && not (gap s k)
-    && zeroFrom (block s k) 10 6
+    && zeroFrom (block s k) spareAt spareBytes
     && zeroFrom (block s k) (recordsAt + recordBytes * count (block s k)) (recordBytes * (blockRecords - count (block s k)))
 
 -- "16-23 the stamp, a then b"
 unfoldable pub goodStamp : Sums → List ℕ → Bool
-goodStamp t b = eqb (u32At b 16) (t .a) && eqb (u32At b 20) (t .b)
+goodStamp t b = eqb (u32At b stampAt) (t .a) && eqb (u32At b stampBAt) (t .b)
 
 -- block k: "12: check. 13: .. 14: stamp. 15: record", with "block from 0, then record from 1 (0 if none)"
 unfoldable pub tableBlockFault : Policy → Sums → List ℕ → ℕ → Option Refusal
@@ -111,7 +112,7 @@ blockImage t b k rs =
     ++ bytes2 k
     ++ bytes2 b
     ++ bytes2 (length rs)
-    ++ zeros 6
+    ++ zeros spareBytes
     ++ sumBytes t
     ++ flatten (map recordImage rs)
     ++ zeros (recordBytes * (blockRecords - length rs)))
