@@ -14,6 +14,7 @@ use Rattle.format_laws.proofs.Accepted.{accepted-records, accepted-length}
 use Rattle.table_write.proofs.SliceBytes.{slice-bytes}
 use lib.Seq.{take-all}
 use lib.Dec.{eqb, leb}
+use Rattle.policy_check.proofs.Lengths.{Blocked, good-blocked, policy-blocked}
 use Rattle.words.specs.First.{_orElse_}
 use Rattle.words.specs.Bytes.{part}
 use Rattle.words.specs.Sums.{Sums, sums, words}
@@ -35,36 +36,6 @@ policy-refused s r e = rw e
 pub policy-accepted : (s : List ℕ) (n : ℕ) → policyFault s ≡ none → n ≡ ruleCount s → accept n ≡ checkPolicy s
 unfolding checkPolicy accepting
 policy-accepted s n e h = rw (e, h)
-
--- the length of an accepted image
-abbrev pub Blocked : ℕ → List ℕ → Type 0
-Blocked most s = (512 * blocks s ≡ length s) × (1 ≤ blocks s) × (blocks s ≤ most)
-
-pub good-blocked : (most : ℕ) (s : List ℕ) → goodLength most s ≡ true → Blocked most s
-unfolding goodLength
-good-blocked most s e =
-    (eqb-true (512 * blocks s) (length s) (both-first a b (both-first (a && b) c e)), leb-true 1 (blocks s) (both-second a b (both-first (a && b) c e)), leb-true (blocks s) most (both-second (a && b) c e))
-  where
-    a : Bool
-    a = eqb (512 * blocks s) (length s)
-
-    b : Bool
-    b = leb 1 (blocks s)
-
-    c : Bool
-    c = leb (blocks s) most
-
-pub policy-blocked : (s : List ℕ) → policyFault s ≡ none → Blocked 64 s
-unfolding policyFault
-policy-blocked s e = good-blocked 64 s (passes-unless _ _ (none-first _ _ e))
-
--- the stamp of an accepted policy is the sum over its words
-pub stamp-words : (s : List ℕ) → policyFault s ≡ none → sums (words (part s 0 (4 * (length s / 4)))) ≡ stamp s
-unfolding stamp
-stamp-words s e = rw (take-all (4 * (length s / 4)) s (whole (length s) (blocks s) (policy-blocked s e .0)))
-  where
-    whole : (n b : ℕ) → 512 * b ≡ n → n ≤ 4 * (n / 4)
-    whole n b h = omega arith
 
 -- ---- a table
 

@@ -6,10 +6,10 @@ ghost use Rattle.words.specs.Bytes.{byteAt};
 ghost use Rattle.format.specs.Rule.{exclusionAt, ruleAt, goodRoles, goodPrivileges, goodExclusion, goodExclusionAt};
 ghost use Rattle.format.specs.Code.{faultOf};
 ghost use Rattle.exclusion_check.specs.Parts.{newRole, goodRole, goodMembers, goodSize, exclusionsFault};
-use crate::privilege;
 use fields::field::u16_at;
 use fields::field::wide;
 use fields::field::zero_from;
+use fields::privilege;
 use format::answer::Fault;
 use format::answer::Refusal;
 

@@ -1,2 +1,2 @@
+// The check of a rule's exclusions.
 pub mod exclusion;
-pub mod privilege;

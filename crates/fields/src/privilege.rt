@@ -72,3 +72,27 @@ impl Privilege {
         Packed(self.operation.0 as u32 + 65536 * (self.target.0 as u32))
     }
 }
+
+// The privilege at a byte has both numbers from 1.
+pub fn full(b: &[u8], at: usize) -> bool
+    requires { ⌜ at + 3 < length (now b) ⌝ }
+    ensures { λ r. ⌜ r ≡ fullPrivilege (privilegeAt (now (b .entry)) at) ⌝ }
+{
+    Privilege::read(b, at).full()
+}
+
+// It has neither.
+pub fn blank(b: &[u8], at: usize) -> bool
+    requires { ⌜ at + 3 < length (now b) ⌝ }
+    ensures { λ r. ⌜ r ≡ blankPrivilege (privilegeAt (now (b .entry)) at) ⌝ }
+{
+    Privilege::read(b, at).blank()
+}
+
+// The privileges at two bytes are one.
+pub fn same(b: &[u8], at: usize, other: usize) -> bool
+    requires { ⌜ (at + 3 < length (now b)) × (other + 3 < length (now b)) ⌝ }
+    ensures { λ r. ⌜ r ≡ samePrivilege (privilegeAt (now (b .entry)) at) (privilegeAt (now (b .entry)) other) ⌝ }
+{
+    Privilege::read(b, at).same(Privilege::read(b, other))
+}

@@ -2,3 +2,4 @@ pub mod BlankLevel
 pub mod BlockFields
 pub mod PolicyBlock
 pub mod Sized
+pub mod Lengths

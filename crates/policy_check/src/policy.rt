@@ -5,15 +5,19 @@ ghost use lib.ListN.{length};
 ghost use Rattle.format.specs.Block.{blocks};
 ghost use Rattle.format.specs.Policy.{policyFault, ruleCount};
 ghost use Rattle.format.specs.Code.{faultOf};
+ghost use mathlib.Core.Option.{none};
+ghost use Rattle.policy_check.specs.Code.{CheckedIs};
 ghost use Rattle.policy_check.specs.Parts.{goodHeader, blockFault, blocksFault};
 use crate::block::good_check;
-use crate::block::good_length;
 use crate::permission::permission_fault;
 use crate::rule::rule_fault;
 use fields::field::u16_at;
 use fields::field::u32_at;
+use fields::tables::good_length;
 use format::answer::Fault;
 use format::answer::Refusal;
+use sums::sum::Sum;
+use sums::sum::sum_words;
 
 // The header of block k of `total`, where `seen` says that a permission block came before it.
 fn good_header(b: &[u8], k: u32, total: u32, seen: bool) -> bool
@@ -97,4 +101,21 @@ pub fn rule_count(s: &[u8]) -> u32
         }
     }
     rules
+}
+
+// What the code above has of a policy that has passed its check: the number of its rules, and its stamp.
+pub struct Checked {
+    pub rules: u32,
+    pub stamp: Sum,
+}
+
+// The same of such a policy.
+pub fn rules_and_stamp(s: &[u8]) -> Checked
+    requires { ⌜ policyFault (now s) ≡ none ⌝ }
+    ensures { λ r. ⌜ CheckedIs (now (s .entry)) r ⌝ }
+{
+    Checked {
+        rules: rule_count(s),
+        stamp: sum_words(s, 0, s.len() / 4),
+    }
 }

@@ -6,10 +6,10 @@ ghost use Rattle.format.specs.Rule.{levelAt, ruleAt, goodMark, goodLevel, goodS
 ghost use Rattle.format.specs.Code.{faultOf};
 ghost use Rattle.policy_check.specs.Parts.{goodLevelOf, goodLevels, stepAt};
 use exclusion_check::exclusion::exclusions_fault;
-use exclusion_check::privilege;
 use fields::field::u16_at;
 use fields::field::wide;
 use fields::field::zero_from;
+use fields::privilege;
 use format::answer::Fault;
 use format::answer::Refusal;
 

@@ -13,7 +13,9 @@ use Rattle.words.specs.Lists.{allBelow, sumBelow}
 use Rattle.words.specs.Bytes.{u16At, u32At, part}
 use Rattle.word_laws.proofs.Bytes.{Byte}
 use Rattle.word_laws.proofs.Parts.{part-part, u16At-part, u32At-part}
-use Rattle.format.specs.Request.{user, contextOf, levelType, levelValue, usedLevel, blankLevel, depthOf, goodContext, goodRequest}
+use Rattle.format.specs.Rule.{fullPrivilege}
+use Rattle.fields.specs.Code.{doneBy}
+use Rattle.format.specs.Request.{Request, user, roles, operation, target, contextOf, levelType, levelValue, usedLevel, blankLevel, depthOf, goodContext, goodRequest}
 use Rattle.request_check.specs.RequestWords.{usedWord, goodLastWords, goodLevelWords, usedWords}
 
 -- ---- a word is two fields
@@ -125,20 +127,18 @@ module _ (w x y z : ℕ) where
 pub context-at : (s : List ℕ) (at : ℕ) → contextOf (part s at 28) ≡ part s (at + 12) 16
 context-at s at = part-part s at 28 12 16 (omega arith)
 
-pub user-at : (s : List ℕ) (at : ℕ) → user (part s at 28) ≡ u32At s at
-user-at s at = u32At-part s at 28 0 (omega arith) ∙ rw (add-zero at)
-
 pub depth-at : (s : List ℕ) (at : ℕ) → ((i : ℕ) → Byte (getD s i 0))
-    → depthOf (contextOf (part s at 28)) ≡ usedWords (u32At s (at + 12)) (u32At s (at + 16)) (u32At s (at + 20)) (u32At s (at + 24))
-depth-at s at bytes =
-    rw (context-at s at) (depth-words s bytes (at + 12) ∙ rw (add-assoc at 12 4, add-assoc at 12 8, add-assoc at 12 12))
+    → depthOf (contextOf (part s at 28)) ≡ usedWords (u32At s (at + 12)) (u32At s (at + 12 + 4)) (u32At s (at + 12 + 8)) (u32At s (at + 12 + 12))
+depth-at s at bytes = rw (context-at s at) (depth-words s bytes (at + 12))
 
-pub request-words : (s : List ℕ) (at : ℕ) → ((i : ℕ) → Byte (getD s i 0))
-    → goodRequest (part s at 28)
-    ≡ not (eqb (u32At s at) 0) && not (eqb (u32At s (at + 4)) 0) && usedWord (u32At s (at + 8)) && goodContext (part s (at + 12) 16)
-unfolding goodRequest usedWord
-request-words s at bytes =
-    rw (user-at s at, u32At-part s at 28 4 (omega arith), u16At-part s at 28 8 (omega arith), u16At-part s at 28 10 (omega arith), context-at s at)
-    (rw (low s bytes (at + 8), high s bytes (at + 8), add-assoc at 8 2)
-    (ap (λ (b : Bool). b && goodContext (part s (at + 12) 16))
-    (and-assoc (not (eqb (u32At s at) 0) && not (eqb (u32At s (at + 4)) 0)) (not (eqb (u16At s (at + 8)) 0)) (not (eqb (u16At s (at + 10)) 0)))))
+-- the tests of a request one after the other, where they are the outcomes of these parts
+pub request-parts : (q : Request)
+    → goodRequest q
+    ≡ not (eqb (user q) 0) && (not (eqb (roles q) 0) && (fullPrivilege (doneBy q) && goodContext (contextOf q)))
+unfolding goodRequest
+request-parts q = grouped (not (eqb (user q) 0)) (not (eqb (roles q) 0)) (not (eqb (operation q) 0)) (not (eqb (target q) 0)) (goodContext (contextOf q))
+  where
+    grouped : (u r o t c : Bool) → u && r && o && t && c ≡ u && (r && ((o && t) && c))
+    grouped false r o t c = refl
+    grouped true false o t c = refl
+    grouped true true o t c = refl

@@ -2,9 +2,9 @@
 // requests to look at.
 ghost use mathlib.Core.Path.{_≡_};
 ghost use mathlib.Core.Bool.{cond};
-ghost use Prim.Native.Nat.{_+_, _*_, _<_, _≤_};
+ghost use Prim.Native.Nat.{_+_, _≤_};
 ghost use lib.ListN.{length};
-ghost use Rattle.words.specs.Bytes.{part, u32At};
+ghost use Rattle.words.specs.Bytes.{part};
 ghost use Rattle.format.specs.Layout.{requestBytes, contextBytes};
 ghost use Rattle.format.specs.Request.{contextOf, depthOf, goodContext, goodRequest, requestFault};
 ghost use Rattle.request_check.specs.RequestWords.{usedWord, goodLastWords, goodLevelWords, usedWords};
@@ -16,6 +16,13 @@ use fields::layout::REQUEST_BYTES;
 use fields::request;
 use format::answer::Fault;
 use format::answer::Refusal;
+
+// Where the words of a context's levels stand behind its first.
+const SECOND_AT: usize = CONTEXT_LEVEL_BYTES;
+
+const THIRD_AT: usize = 2 * CONTEXT_LEVEL_BYTES;
+
+const FOURTH_AT: usize = 3 * CONTEXT_LEVEL_BYTES;
 
 // Both numbers of a word are from 1.
 fn used(word: u32) -> bool
@@ -70,14 +77,6 @@ fn used_levels(w: u32, x: u32, y: u32, z: u32) -> u32
     used_count(w) + used_count(x) + used_count(y) + used_count(z)
 }
 
-// The word of level i of the context that begins at a byte: its type and its value.
-fn level_word(s: &[u8], at: usize, i: usize) -> u32
-    requires { ⌜ (at + contextBytes ≤ length (now s)) × (i < 4) ⌝ }
-    ensures { λ r. ⌜ r ≡ u32At (now (s .entry)) (at + 4 * i) ⌝ }
-{
-    u32_at(s, at + CONTEXT_LEVEL_BYTES * i)
-}
-
 // The depth of the request's context.
 pub fn depth(s: &[u8], at: usize) -> u32
     requires { ⌜ at + requestBytes ≤ length (now s) ⌝ }
@@ -85,10 +84,10 @@ pub fn depth(s: &[u8], at: usize) -> u32
 {
     let from = at + CONTEXT_AT;
     used_levels(
-        level_word(s, from, 0),
-        level_word(s, from, 1),
-        level_word(s, from, 2),
-        level_word(s, from, 3),
+        u32_at(s, from),
+        u32_at(s, from + SECOND_AT),
+        u32_at(s, from + THIRD_AT),
+        u32_at(s, from + FOURTH_AT),
     )
 }
 
@@ -98,10 +97,10 @@ pub fn good_context(s: &[u8], at: usize) -> bool
     ensures { λ r. ⌜ r ≡ goodContext (part (now (s .entry)) at contextBytes) ⌝ }
 {
     good_levels(
-        level_word(s, at, 0),
-        level_word(s, at, 1),
-        level_word(s, at, 2),
-        level_word(s, at, 3),
+        u32_at(s, at),
+        u32_at(s, at + SECOND_AT),
+        u32_at(s, at + THIRD_AT),
+        u32_at(s, at + FOURTH_AT),
     )
 }
 

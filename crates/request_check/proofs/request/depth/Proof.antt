@@ -8,26 +8,26 @@ use Rattle.request_check.proofs.RequestWords.{depth-at}
 use Rattle.request_check.proofs.request.depth.Statement.{statement}
 use Rattle.request_check.proofs.request.depth.Tie as tie
 
-add-u32-at : tie.Need-add-u32-at
-add-u32-at c = search needs
+add-from : tie.Need-add-from
+add-from c = search needs
 
 u32-at-requires : tie.Need-u32-at-requires
 u32-at-requires c κs = search needs
 
-add-u32-at-2 : tie.Need-add-u32-at-2
-add-u32-at-2 c = search needs
+add-u32-at : tie.Need-add-u32-at
+add-u32-at c = search needs
 
 u32-at-requires-2 : tie.Need-u32-at-requires-2
 u32-at-requires-2 c κs = search needs
 
-add-u32-at-3 : tie.Need-add-u32-at-3
-add-u32-at-3 c = search needs
+add-u32-at-2 : tie.Need-add-u32-at-2
+add-u32-at-2 c = search needs
 
 u32-at-requires-3 : tie.Need-u32-at-requires-3
 u32-at-requires-3 c κs = search needs
 
-add-u32-at-4 : tie.Need-add-u32-at-4
-add-u32-at-4 c = search needs
+add-u32-at-3 : tie.Need-add-u32-at-3
+add-u32-at-3 c = search needs
 
 u32-at-requires-4 : tie.Need-u32-at-requires-4
 u32-at-requires-4 c κs = search needs
@@ -45,13 +45,13 @@ pub depth-spec : {M : Type 1} → statement M
 depth-spec =
     tie.close
     (tie.spec
-    add-u32-at
+    add-from
     u32-at-requires
-    add-u32-at-2
+    add-u32-at
     u32-at-requires-2
-    add-u32-at-3
+    add-u32-at-2
     u32-at-requires-3
-    add-u32-at-4
+    add-u32-at-3
     u32-at-requires-4
     used-levels-requires
     returns)

@@ -1,63 +1,73 @@
 -- `request_check::request::good_request` meets its contract.
 -- Assumes nothing.
-use Prim.Native.Nat.{ℕ, _+_}
-use mathlib.Core.Path.{_≡_, sym, _∙_}
-use mathlib.Core.Bool.{false}
-use lib.ListN.{getD}
+use native.Mathlib.Omega.{arith}
+use mathlib.Core.Path.{_≡_, refl, sym, ap, _∙_}
+use mathlib.Core.Bool.{Bool, true, false, not, _&&_}
 use lib.Dec.{eqb}
-use borrow.Author.Tests.{not-true, not-false, ne-eqb}
+use borrow.Author.Tests.{eq-eqb, ne-eqb, not-true, not-false}
 use borrow.Author.Needs.{needs}
-use Rattle.words.specs.Bytes.{u32At}
-use Rattle.word_laws.proofs.Bytes.{Byte}
-use Rattle.request_check.proofs.RequestWords.{request-words}
+use Rattle.words.specs.Bytes.{part}
+use Rattle.format.specs.Request.{Request, user, roles, contextOf, goodContext, goodRequest}
+use Rattle.format.specs.Rule.{Privilege, fullPrivilege}
+use Rattle.fields.specs.Code.{doneBy}
+use Rattle.request_check.proofs.RequestWords.{request-parts, context-at}
 use Rattle.request_check.proofs.request.good_request.Statement.{statement}
 use Rattle.request_check.proofs.request.good_request.Tie as tie
 
-user-some : (c : tie.Else1) → let a = c .before .before .before .args in eqb (u32At (a .s .now) (a .at)) 0 ≡ false
-user-some c = rw (← c .before .u32-at .ensures) (ne-eqb (c .before .u32-at .result) 0 (c .if1 .left))
+-- a test that fails ends it
+module _ (q : Request) where
+  no-user : user q ≡ 0 → false ≡ goodRequest q
+  no-user e = sym (request-parts q ∙ rw (eq-eqb (user q) 0 e))
 
-roles-some : (c : tie.Else2) → let a = c .before .before .before .before .before .args in eqb (u32At (a .s .now) (a .at + 4)) 0 ≡ false
-roles-some c = rw (← c .before .u32-at2 .ensures) (ne-eqb (c .before .u32-at2 .result) 0 (c .if2 .left))
+  no-roles : (user q ≡ 0 → ⊥) → roles q ≡ 0 → false ≡ goodRequest q
+  no-roles u e = sym (request-parts q ∙ rw (ne-eqb (user q) 0 u, eq-eqb (roles q) 0 e))
 
-u32-at-requires : tie.Need-u32-at-requires
-u32-at-requires c κs = search needs
+  no-privilege : (user q ≡ 0 → ⊥) → (roles q ≡ 0 → ⊥) → fullPrivilege (doneBy q) ≡ false → false ≡ goodRequest q
+  no-privilege u r e = sym (request-parts q ∙ rw (ne-eqb (user q) 0 u, ne-eqb (roles q) 0 r, e))
+
+  the-rest : (user q ≡ 0 → ⊥) → (roles q ≡ 0 → ⊥) → fullPrivilege (doneBy q) ≡ true → goodContext (contextOf q) ≡ goodRequest q
+  the-rest u r e = sym (request-parts q ∙ rw (ne-eqb (user q) 0 u, ne-eqb (roles q) 0 r, e))
+
+user-requires : tie.Need-user-requires
+user-requires c κs = search needs
 
 returns : tie.Need-returns
 returns c =
-    let a = c .before .before .before .args in
-    let bytes : (i : ℕ) → Byte (getD (a .s .now) i 0) = λ i. c .before .before .shared-slice-known .given i .fits in
-    let e : u32At (a .s .now) (a .at) ≡ 0 = sym (c .before .u32-at .ensures) ∙ c .if1 .taken in
-    sym (request-words (a .s .now) (a .at) bytes ∙ rw e)
+    let a = c .before .before .before .before .args in
+    no-user (part (a .s .now) (a .at) 28) (sym (c .before .before .user .ensures) ∙ c .if1 .taken)
 
-add-u32-at : tie.Need-add-u32-at
-add-u32-at c = search needs
+roles-requires : tie.Need-roles-requires
+roles-requires c κs = search needs
 
-u32-at-requires-2 : tie.Need-u32-at-requires-2
-u32-at-requires-2 c κs = search needs
+some-user : (c : tie.Else1) → let a = c .before .before .before .before .args in user (part (a .s .now) (a .at) 28) ≡ 0 → ⊥
+some-user c e = c .if1 .left (c .before .before .user .ensures ∙ e)
 
 returns-2 : tie.Need-returns-2
 returns-2 c =
-    let a = c .before .before .before .before .before .args in
-    let bytes : (i : ℕ) → Byte (getD (a .s .now) i 0) = λ i. c .before .before .before .before .shared-slice-known .given i .fits in
-    let e : u32At (a .s .now) (a .at + 4) ≡ 0 = sym (c .before .u32-at2 .ensures) ∙ c .if2 .taken in
-    sym (request-words (a .s .now) (a .at) bytes ∙ rw (user-some (c .before .before), e))
+    let a = c .before .before .before .before .before .before .before .args in
+    no-roles (part (a .s .now) (a .at) 28) (some-user (c .before .before .before)) (sym (c .before .before .roles .ensures) ∙ c .if2 .taken)
 
-add-read : tie.Need-add-read
-add-read c = search needs
+privilege-requires : tie.Need-privilege-requires
+privilege-requires c κs = search needs
 
-read-requires : tie.Need-read-requires
-read-requires c κs = search needs
+some-roles : (c : tie.Else2) → let a = c .before .before .before .before .before .before .before .args in roles (part (a .s .now) (a .at) 28) ≡ 0 → ⊥
+some-roles c e = c .if2 .left (c .before .before .roles .ensures ∙ e)
 
-used-requires : tie.Need-used-requires
-used-requires c κs = search needs
+full-requires : tie.Need-full-requires
+full-requires c κs = search needs
+
+-- what the call says of the privilege that was read
+full-is : (c : tie.After-full)
+    → let a = c .before .before .before .before .before .before .before .before .before .args in
+    fullPrivilege (doneBy (part (a .s .now) (a .at) 28)) ≡ c .full .result
+full-is c = sym (c .full .ensures ∙ ap (λ (p : Privilege). fullPrivilege p) (c .before .privilege .ensures))
 
 returns-3 : tie.Need-returns-3
 returns-3 c =
-    let a = c .before .before .before .before .before .before .before .before .args in
-    let bytes : (i : ℕ) → Byte (getD (a .s .now) i 0) = λ i. c .before .before .before .before .before .before .before .shared-slice-known .given i .fits in
-    let u = c .before .used in
-    sym (request-words (a .s .now) (a .at) bytes
-    ∙ rw (user-some (c .before .before .before .before .before), roles-some (c .before .before .before), ← c .before .before .read .ensures, ← u .ensures, not-true (u .result) (c .if3 .taken)))
+    let a = c .before .before .before .before .before .before .before .before .before .before .args in
+    let two = c .before .before .before in
+    no-privilege (part (a .s .now) (a .at) 28) (some-user (two .before .before .before)) (some-roles two)
+    (full-is (c .before) ∙ not-true (c .before .full .result) (c .if3 .taken))
 
 add-good-context : tie.Need-add-good-context
 add-good-context c = search needs
@@ -67,25 +77,23 @@ good-context-requires c κs = search needs
 
 returns-4 : tie.Need-returns-4
 returns-4 c =
-    let a = c .before .before .before .before .before .before .before .before .before .args in
-    let bytes : (i : ℕ) → Byte (getD (a .s .now) i 0) = λ i. c .before .before .before .before .before .before .before .before .shared-slice-known .given i .fits in
-    let u = c .before .before .used in
+    let a = c .before .before .before .before .before .before .before .before .before .before .before .args in
+    let two = c .before .before .before .before in
     c .good-context .ensures
-    ∙ sym (request-words (a .s .now) (a .at) bytes
-    ∙ rw (user-some (c .before .before .before .before .before .before), roles-some (c .before .before .before .before), ← c .before .before .before .read .ensures, ← u .ensures, not-false (u .result) (c .before .if3 .left)))
+    ∙ sym (ap (λ (t : Request). goodContext t) (context-at (a .s .now) (a .at)))
+    ∙ the-rest (part (a .s .now) (a .at) 28) (some-user (two .before .before .before)) (some-roles two)
+    (full-is (c .before .before) ∙ not-false (c .before .before .full .result) (c .before .if3 .left))
 
 pub good-request-spec : {M : Type 1} → statement M
 good-request-spec =
     tie.close
     (tie.spec
-    u32-at-requires
+    user-requires
     returns
-    add-u32-at
-    u32-at-requires-2
+    roles-requires
     returns-2
-    add-read
-    read-requires
-    used-requires
+    privilege-requires
+    full-requires
     returns-3
     add-good-context
     good-context-requires
