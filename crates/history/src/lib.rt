@@ -1,2 +1,3 @@
-// What the records of a table say to a request: open run places, and what its user did.
-pub mod scan;
+// What the records of a table say to a request: which run places are open, and what its user did in them.
+pub mod finding;
+pub mod pasts;

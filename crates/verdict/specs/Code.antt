@@ -2,30 +2,34 @@
 -- Assumes nothing.
 use Prim.Native.Nat.{ℕ, _+_, _*_, _≤_, _<_}
 use mathlib.Core.Path.{_≡_}
-use mathlib.Core.Bool.{cond, not}
-use mathlib.Core.List.{List, []}
+use mathlib.Core.Bool.{true, cond, not}
+use mathlib.Core.List.{List, [], _∷_, _++_}
 use mathlib.Core.Option.{Option, none, some}
 use lib.ListN.{length}
 use lib.Dec.{eqb}
 use Rattle.words.specs.Lists.{tab}
 use Rattle.words.specs.First.{unless, first}
-use Rattle.words.specs.Bytes.{byteAt, bit, bits}
+use Rattle.words.specs.Bytes.{byteAt, bit}
 use Rattle.format.specs.Answer.{Refusal, refusal}
-use Rattle.format.specs.Layout.{blockBytes, mostRules, permissionKind, highestRole}
+use Rattle.format.specs.Layout.{blockBytes, mostRules, mostExclusions, mostEntries, permissionKind, highestRole, exclusionsAt}
 use Rattle.format.specs.Block.{block, kind}
 use Rattle.format.specs.Request.{Request}
 use Rattle.format.specs.Rule.{exclusionAt}
-use Rattle.format.specs.Policy.{Policy, Permission, permissionAt, entries}
+use Rattle.format.specs.Policy.{Policy, Permission, policyFault, ruleCount, permissionAt, entries}
 use Rattle.format.specs.Table.{Record}
-use Rattle.judge.specs.Tally.{exclusionNumber}
-use Rattle.judge.specs.Verdict.{judges, verdict}
+use Rattle.format.specs.Code.{faultOf}
+use Rattle.judge.specs.Tally.{reached, exclusionNumber}
+use Rattle.judge.specs.Verdict.{verdict}
 use Rattle.judge.specs.NewTable.{openIn, pastIn}
-use Rattle.tally.specs.Code.{rolesIn}
-use Rattle.exclusion_tally.specs.Code.{reachedIn}
-use Rattle.verdict.specs.declared.verdicts.Failing.{Failing}
-use Rattle.verdict.specs.declared.verdicts.Failing.the-variants.{Nowhere, At}
+use Rattle.matching.specs.declared.masks.Each.{Each}
+use Rattle.matching.specs.Masks.{EachOf}
+use Rattle.matching.specs.Sets.{EffectIs}
+use Rattle.history.specs.Code.{pastBy}
+use Rattle.verdict.specs.declared.search.Failing.{Failing}
+use Rattle.verdict.specs.declared.search.Failing.the-variants.{Nowhere, At}
+use Rattle.verdict.specs.declared.verdicts.Verdict.{Verdict}
 
--- ---- the verdict
+-- ---- step 1
 
 -- the entries of a permission block, none if it is a rule block
 unfoldable pub entriesOf : List ℕ → List Permission
@@ -33,38 +37,24 @@ entriesOf b = cond (eqb (kind b) permissionKind) (tab (permissionAt b) 0 (entrie
 
 -- what the check of a permission block says of its entries
 pub record EntriesFit (b : List ℕ) : Type 0 where
-  pub most : entries b ≤ 61
+  pub most : entries b ≤ mostEntries
   pub low : (i : ℕ) → i < entries b → 1 ≤ permissionAt b i .role
   pub high : (i : ℕ) → i < entries b → permissionAt b i .role ≤ highestRole
 
--- a rule's block, of a depth that its check lets pass
-pub record RuleBlock (b : List ℕ) : Type 0 where
-  pub whole : length b ≡ blockBytes
-  pub depth : byteAt b 8 ≤ 4
-
--- ---- step 2
-
--- those that judge it, where `opens` has the rules whose run place is open
-unfoldable pub judgingBy : Policy → Request → ℕ → ℕ
-judgingBy p q opens = bits (p .rules) (λ i. judges (p .rule i) q (bit i opens))
-
--- those that judge it over these records
-unfoldable pub judgingIn : Policy → List Record → Request → ℕ
-judgingIn p rs q = bits (p .rules) (λ i. judges (p .rule i) q (openIn p rs q i))
-
 -- ---- step 3
 
--- exclusion e fails
-unfoldable pub failsIn : List ℕ → ℕ → ℕ → List ℕ → ℕ → ℕ → Option Refusal
-failsIn b i roles groups g e =
-    unless (not (reachedIn b e i roles groups g)) (refusal (exclusionNumber (exclusionAt b e)) (i + 1) (e + 1))
+-- a set of rules of an accepted policy
+pub record JudgingRules (policy : List ℕ) (rules : ℕ) : Type 0 where
+  pub accepted : policyFault policy ≡ none
+  pub below : (i : ℕ) → bit i rules ≡ true → i < ruleCount policy
 
--- the first that fails of the rule, and of the rules that a mask has
-unfoldable pub ruleFails : List ℕ → ℕ → List ℕ → List ℕ → ℕ → Option Refusal
-ruleFails b i active groups g = first (failsIn b i (rolesIn active i) groups g) 0 (byteAt b 9)
+-- the first exclusion of the rule of index i, whose block is b, that these requests reach
+unfoldable pub failsIn : List ℕ → ℕ → List Request → Option Refusal
+failsIn b i qs = first (λ e. unless (not (reached (exclusionAt b e) qs)) (refusal (exclusionNumber (exclusionAt b e)) (i + 1) (e + 1))) 0 (byteAt b exclusionsAt)
 
-unfoldable pub maskFails : List ℕ → ℕ → List ℕ → List ℕ → ℕ → ℕ → Option Refusal
-maskFails policy mask active groups g i = cond (bit i mask) (ruleFails (block policy i) i active groups g) none
+-- the same for a rule of the set, over its past among the records found and the request
+unfoldable pub ruleFails : List ℕ → ℕ → Each → Request → List ℕ → List ℕ → ℕ → Option Refusal
+ruleFails policy rules e q table found i = cond (bit i rules) (failsIn (block policy i) i (pastBy e q i table found ++ (q ∷ []))) none
 
 -- what the search found, as a refusal: "32 for kind 1, 33 for kind 2", with rule and exclusion from 1
 abbrev pub failingOf : List ℕ → Failing → Option Refusal
@@ -72,11 +62,12 @@ failingOf policy Nowhere = none
 failingOf policy (At i e) = some (refusal (exclusionNumber (exclusionAt (block policy i) e)) (i + 1) (e + 1))
 
 -- it stands in the policy
-abbrev pub FoundIn : List ℕ → Failing → Type 0
-FoundIn policy Nowhere = Unit {0}
-FoundIn policy (At i e) = (i < mostRules) × (e < 8) × (blockBytes * i + blockBytes ≤ length policy)
+abbrev pub FoundAt : List ℕ → Failing → Type 0
+FoundAt policy Nowhere = Unit {0}
+FoundAt policy (At i e) = (i < mostRules) × (e < mostExclusions) × (blockBytes * i + blockBytes ≤ length policy)
 
--- steps 1 to 3 over a table's records: the verdict, and with none the rules that judge
-pub record VerdictIs (p : Policy) (rs : List Record) (q : Request) (fault : Option Refusal) (judging : ℕ) : Type 0 where
-  pub faults : fault ≡ verdict p q (openIn p rs q) (pastIn p rs q)
-  pub marks : fault ≡ none → judging ≡ judgingIn p rs q
+-- ---- steps 1 to 3 over a table's records: the verdict; the masks; and, where nothing is against the request, what a grant ends and gives
+pub record VerdictIs (p : Policy) (rs : List Record) (q : Request) (v : Verdict) : Type 0 where
+  pub faults : faultOf (v .fault) ≡ verdict p q (openIn p rs q) (pastIn p rs q)
+  pub each-is : EachOf p (v .each)
+  pub effect-is : faultOf (v .fault) ≡ none → EffectIs p q (openIn p rs q) (v .effect)

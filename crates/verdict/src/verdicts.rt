@@ -1,175 +1,155 @@
-// Step 3 of the judge, and steps 1 to 3 together.
+// Steps 1 to 3 of the judge together.
 ghost use mathlib.Core.Path.{_≡_};
-ghost use mathlib.Core.Bool.{true, cond};
-ghost use Prim.Native.Nat.{ℕ, _+_, _*_, _<_, _≤_};
+ghost use mathlib.Core.Bool.{true};
+ghost use Prim.Native.Nat.{ℕ, _+_, _<_, _≤_};
 ghost use mathlib.Core.Option.{none};
 ghost use lib.ListN.{length, getD};
-ghost use lib.Dec.{eqb};
 ghost use Rattle.words.specs.First.{first};
-ghost use Rattle.format.specs.Policy.{policyFault, policyOf, ruleCount};
+ghost use Rattle.format.specs.Layout.{requestBytes, recordBytes, mostRules};
+ghost use Rattle.format.specs.Policy.{policyFault, policyOf};
 ghost use Rattle.format.specs.Place.{recordsHere};
 ghost use Rattle.format.specs.Code.{faultOf};
 ghost use Rattle.judge.specs.Verdict.{permitted as permittedBy};
-ghost use Rattle.tally.specs.Code.{Trees};
-ghost use Rattle.history.specs.Code.{HasRoom, fittingIn};
-ghost use Rattle.verdict.specs.Code.{maskFails, failingOf, FoundIn, VerdictIs};
+ghost use Rattle.fields.specs.Code.{HasRoom};
+ghost use Rattle.policy_check.specs.Code.{CheckedIs};
+ghost use Rattle.matching.specs.Masks.{EachOf};
+ghost use Rattle.matching.specs.Sets.{MatchedIs};
+ghost use Rattle.verdict.specs.Code.{JudgingRules, ruleFails, VerdictIs};
 use crate::permits::permitted;
-use crate::rules::fitting;
-use crate::rules::judging;
-use exclusion_tally::counting::reaches;
-use fields::field::bit;
-use fields::field::wide;
+use crate::search::Judging;
+use crate::search::fault_of;
+use crate::search::first_failing;
+use fields::sets::RuleSet;
 use format::answer::Fault;
 use format::answer::Refusal;
-use history::scan::scan;
-use history::scan::take;
-use tally::tallies::active_roles;
+use history::finding::find;
+use matching::masks::Each;
+use matching::masks::each_of;
+use matching::rules::Effect;
+use matching::rules::Matched;
+use matching::rules::match_rules;
+use policy_check::policy::Checked;
 
-// The first failing exclusion: its rule and itself, each by its index from 0.
-pub enum Failing {
-    Nowhere,
-    At(u32, u32),
-}
-
-// The search through the rules that judge and the exclusions of each, over what was taken in.
-pub fn first_failing(
-    policy: &[u8],
-    rules: u32,
-    judging: u32,
-    active: &[u32; 32],
-    groups: &[u32],
-    g: usize,
-) -> Failing
-    requires { ⌜ (policyFault (now policy) ≡ none) × (rules ≡ ruleCount (now policy)) ⌝ }
-    requires { ⌜ Trees (now groups) g ⌝ }
-    ensures { λ r. ⌜ (failingOf (now (policy .entry)) r ≡ first (maskFails (now (policy .entry)) judging (now (active .entry)) (now (groups .entry)) g) 0 rules) × (FoundIn (now (policy .entry)) r) ⌝ }
-{
-    let mut i = 0u32;
-    'rules: loop {
-        if rules <= i {
-            break 'rules Failing::Nowhere;
-        }
-        if !bit(judging, i) {
-            i += 1;
-            continue 'rules;
-        }
-        let at = 512 * (i as usize);
-        let b = &policy[at..at + 512];
-        let roles = active_roles(active, i);
-        let n = wide(b[9]);
-        let mut e = 0u32;
-        while e < n {
-            if reaches(b, e as usize, i, roles, groups, g) {
-                break 'rules Failing::At(i, e);
-            }
-            e += 1;
-        }
-        i += 1;
-    }
-}
-
-// The number of a failing exclusion by its kind.
-fn exclusion_number(kind: u8) -> u32
-    ensures { λ r. ⌜ r ≡ cond (eqb kind 1) 32 33 ⌝ }
-{
-    if kind == 1 { 32 } else { 33 }
-}
-
-// What the search found, as a refusal: rule and exclusion are told from 1.
-fn fault_of(policy: &[u8], found: Failing) -> Fault
-    requires { ⌜ FoundIn (now policy) found ⌝ }
-    ensures { λ r. ⌜ faultOf r ≡ failingOf (now (policy .entry)) found ⌝ }
-{
-    let Failing::At(i, e) = found else {
-        return Fault::Nothing;
-    };
-    let at = 512 * (i as usize) + (56 + 36 * (e as usize));
-    Fault::At(Refusal {
-        number: exclusion_number(policy[at]),
-        first: i + 1,
-        second: e + 1,
-    })
-}
-
-// The verdict, and the rules that judge, rule i + 1 at bit i: step 4 asks for them.
+// The verdict; with none against the request, what a grant ends and gives; and the masks by which its records are cleared.
 pub struct Verdict {
     pub fault: Fault,
-    pub judging: u32,
+    pub effect: Effect,
+    pub each: Each,
 }
 
-// What came of steps 2 and 3, if the room for it was enough.
-struct Attempt {
-    whole: bool,
-    verdict: Verdict,
+// What a request is to the rules of a policy, and the masks that tell their run places apart.
+struct Asked {
+    matched: Matched,
+    each: Each,
 }
 
-// Steps 2 and 3 of a request that fits these rules: one pass over the records, the request itself, then the search.
+// The search, with room for the past of few records: most users have few that may count, and the room has to be made ready for each call.
+fn fault_few(policy: &[u8], judging: Judging, q: &[u8], table: &[u8], found: &[u16]) -> Fault
+    requires { ⌜ JudgingRules (now policy) (judging .rules .0) ⌝ }
+    requires { ⌜ (length (now q) ≡ requestBytes) × (length (now found) ≤ 60) ⌝ }
+    requires { ⌜ ((j : ℕ) → j < length (now found) → getD (now found) j 0 + recordBytes ≤ length (now table)) ⌝ }
+    ensures { λ r. ⌜ faultOf r ≡ first (ruleFails (now (policy .entry)) (judging .rules .0) (judging .each) (now (q .entry)) (now (table .entry)) (now (found .entry))) 0 mostRules ⌝ }
+{
+    let mut past = [0u32; 120];
+    let failing = first_failing(policy, judging, q, table, found, &mut past[0..120]);
+    fault_of(policy, failing)
+}
+
+// The same with room for all the records of the largest table.
+fn fault_many(policy: &[u8], judging: Judging, q: &[u8], table: &[u8], found: &[u16]) -> Fault
+    requires { ⌜ JudgingRules (now policy) (judging .rules .0) ⌝ }
+    requires { ⌜ (length (now q) ≡ requestBytes) × (length (now found) ≤ 1920) ⌝ }
+    requires { ⌜ ((j : ℕ) → j < length (now found) → getD (now found) j 0 + recordBytes ≤ length (now table)) ⌝ }
+    ensures { λ r. ⌜ faultOf r ≡ first (ruleFails (now (policy .entry)) (judging .rules .0) (judging .each) (now (q .entry)) (now (table .entry)) (now (found .entry))) 0 mostRules ⌝ }
+{
+    let mut past = [0u32; 3840];
+    let failing = first_failing(policy, judging, q, table, found, &mut past[0..3840]);
+    fault_of(policy, failing)
+}
+
+// The search, by how many records may count.
+fn search_fault(policy: &[u8], judging: Judging, q: &[u8], table: &[u8], found: &[u16]) -> Fault
+    requires { ⌜ JudgingRules (now policy) (judging .rules .0) ⌝ }
+    requires { ⌜ (length (now q) ≡ requestBytes) × (length (now found) ≤ 1920) ⌝ }
+    requires { ⌜ ((j : ℕ) → j < length (now found) → getD (now found) j 0 + recordBytes ≤ length (now table)) ⌝ }
+    ensures { λ r. ⌜ faultOf r ≡ first (ruleFails (now (policy .entry)) (judging .rules .0) (judging .each) (now (q .entry)) (now (table .entry)) (now (found .entry))) 0 mostRules ⌝ }
+{
+    if found.len() <= 60 {
+        return fault_few(policy, judging, q, table, found);
+    }
+    fault_many(policy, judging, q, table, found)
+}
+
+// Steps 2 and 3: one pass over the records, then the search.
 fn judged(
     policy: &[u8],
-    rules: u32,
-    fitting: u32,
+    asked: Asked,
     q: &[u8],
     table: &[u8],
     n: usize,
-    groups: &mut [u32],
-) -> Attempt
-    requires { ⌜ (policyFault (now policy) ≡ none) × (rules ≡ ruleCount (now policy)) × (fitting ≡ fittingIn (policyOf (now policy)) (now q)) ⌝ }
-    requires { ⌜ (length (now q) ≡ 28) × (permittedBy (policyOf (now policy)) (now q) ≡ true) × (1024 ≤ length (now groups)) × ((h : ℕ) → h < 1021 → getD (now groups) h 0 ≡ 0) ⌝ }
+    found: &mut [u16],
+) -> Verdict
+    requires { ⌜ (policyFault (now policy) ≡ none) × (permittedBy (policyOf (now policy)) (now q) ≡ true) ⌝ }
+    requires { ⌜ (MatchedIs (policyOf (now policy)) (now q) (asked .matched)) × (EachOf (policyOf (now policy)) (asked .each)) ⌝ }
+    requires { ⌜ (length (now q) ≡ requestBytes) × (n ≤ length (now found)) ⌝ }
     requires { ⌜ HasRoom (now table) n ⌝ }
-    ensures { λ r. ⌜ (r .whole ≡ true → VerdictIs (policyOf (now (policy .entry))) (recordsHere (now (table .entry)) n) (now (q .entry)) (faultOf (r .verdict .fault)) (r .verdict .judging)) × (1024 + 7 * n + 7 ≤ length (now (groups .entry)) → r .whole ≡ true) ⌝ }
+    ensures { λ r. ⌜ VerdictIs (policyOf (now (policy .entry))) (recordsHere (now (table .entry)) n) (now (q .entry)) r ⌝ }
 {
-    let mut active = [0u32; 32];
-    let seen = scan(policy, rules, fitting, q, table, n, &mut active, groups);
-    if !seen.whole {
-        return Attempt {
-            whole: false,
-            verdict: Verdict {
-                fault: Fault::Nothing,
-                judging: 0,
-            },
-        };
-    }
-    let mask = judging(policy, rules, q, fitting, seen.opens);
-    let tally = take(seen.tally, mask, q, 0, &mut active, groups);
-    let failing = first_failing(policy, rules, mask, &active, groups, tally.groups);
-    Attempt {
-        whole: true,
-        verdict: Verdict {
-            fault: fault_of(policy, failing),
-            judging: mask,
-        },
+    let each = asked.each;
+    let matched = asked.matched;
+    let seen = find(each, matched.fitting, q, table, n, found);
+    let count = seen.count;
+    let rules = matched.judging(seen.open);
+    let fault = search_fault(policy, Judging { rules, each }, q, table, &found[0..count]);
+    Verdict {
+        fault,
+        effect: matched.effect(rules),
+        each,
     }
 }
 
-// The same with room for 60 privileges: few users do more, and the room has to be made ready for each call.
-fn judged_few(policy: &[u8], rules: u32, fitting: u32, q: &[u8], table: &[u8], n: usize) -> Attempt
-    requires { ⌜ (policyFault (now policy) ≡ none) × (rules ≡ ruleCount (now policy)) × (fitting ≡ fittingIn (policyOf (now policy)) (now q)) ⌝ }
-    requires { ⌜ (length (now q) ≡ 28) × (permittedBy (policyOf (now policy)) (now q) ≡ true) ⌝ }
+// The same for a table of few records, which does not pay for the room that many take.
+fn judged_few(policy: &[u8], asked: Asked, q: &[u8], table: &[u8], n: usize) -> Verdict
+    requires { ⌜ (policyFault (now policy) ≡ none) × (permittedBy (policyOf (now policy)) (now q) ≡ true) ⌝ }
+    requires { ⌜ (MatchedIs (policyOf (now policy)) (now q) (asked .matched)) × (EachOf (policyOf (now policy)) (asked .each)) ⌝ }
+    requires { ⌜ (length (now q) ≡ requestBytes) × (n ≤ 60) ⌝ }
     requires { ⌜ HasRoom (now table) n ⌝ }
-    ensures { λ r. ⌜ (r .whole ≡ true → VerdictIs (policyOf (now (policy .entry))) (recordsHere (now (table .entry)) n) (now (q .entry)) (faultOf (r .verdict .fault)) (r .verdict .judging)) ⌝ }
+    ensures { λ r. ⌜ VerdictIs (policyOf (now (policy .entry))) (recordsHere (now (table .entry)) n) (now (q .entry)) r ⌝ }
 {
-    let mut groups = [0u32; 1451];
-    judged(policy, rules, fitting, q, table, n, &mut groups[0..1451])
+    let mut found = [0u16; 60];
+    judged(policy, asked, q, table, n, &mut found[0..60])
 }
 
-// The same with room for a privilege of each record of the largest table, which is always enough.
-fn judged_many(policy: &[u8], rules: u32, fitting: u32, q: &[u8], table: &[u8], n: usize) -> Verdict
-    requires { ⌜ (policyFault (now policy) ≡ none) × (rules ≡ ruleCount (now policy)) × (fitting ≡ fittingIn (policyOf (now policy)) (now q)) ⌝ }
-    requires { ⌜ (length (now q) ≡ 28) × (permittedBy (policyOf (now policy)) (now q) ≡ true) ⌝ }
+// The same for any table.
+fn judged_many(policy: &[u8], asked: Asked, q: &[u8], table: &[u8], n: usize) -> Verdict
+    requires { ⌜ (policyFault (now policy) ≡ none) × (permittedBy (policyOf (now policy)) (now q) ≡ true) ⌝ }
+    requires { ⌜ (MatchedIs (policyOf (now policy)) (now q) (asked .matched)) × (EachOf (policyOf (now policy)) (asked .each)) ⌝ }
+    requires { ⌜ length (now q) ≡ requestBytes ⌝ }
     requires { ⌜ HasRoom (now table) n ⌝ }
-    ensures { λ r. ⌜ VerdictIs (policyOf (now (policy .entry))) (recordsHere (now (table .entry)) n) (now (q .entry)) (faultOf (r .fault)) (r .judging) ⌝ }
+    ensures { λ r. ⌜ VerdictIs (policyOf (now (policy .entry))) (recordsHere (now (table .entry)) n) (now (q .entry)) r ⌝ }
 {
-    let mut groups = [0u32; 14471];
-    judged(policy, rules, fitting, q, table, n, &mut groups[0..14471]).verdict
+    let mut found = [0u16; 1920];
+    judged(policy, asked, q, table, n, &mut found[0..1920])
+}
+
+// What a grant does to marks where no rule judges.
+fn no_effect() -> Effect
+    ensures { λ r. ⌜ (r .ends .0 ≡ 0) × (r .gives .0 ≡ 0) ⌝ }
+{
+    Effect {
+        ends: RuleSet(0),
+        gives: RuleSet(0),
+    }
 }
 
 // Steps 1 to 3 over the n records of a table. A request that fits no rule is done after step 1.
-pub fn verdict_of(policy: &[u8], rules: u32, q: &[u8], table: &[u8], n: usize) -> Verdict
-    requires { ⌜ (policyFault (now policy) ≡ none) × (rules ≡ ruleCount (now policy)) ⌝ }
-    requires { ⌜ length (now q) ≡ 28 ⌝ }
+pub fn verdict_of(policy: &[u8], checked: Checked, q: &[u8], table: &[u8], n: usize) -> Verdict
+    requires { ⌜ CheckedIs (now policy) checked ⌝ }
+    requires { ⌜ length (now q) ≡ requestBytes ⌝ }
     requires { ⌜ HasRoom (now table) n ⌝ }
-    ensures { λ r. ⌜ VerdictIs (policyOf (now (policy .entry))) (recordsHere (now (table .entry)) n) (now (q .entry)) (faultOf (r .fault)) (r .judging) ⌝ }
+    ensures { λ r. ⌜ VerdictIs (policyOf (now (policy .entry))) (recordsHere (now (table .entry)) n) (now (q .entry)) r ⌝ }
 {
+    let each = each_of(policy, checked);
     if !permitted(policy, q) {
         return Verdict {
             fault: Fault::At(Refusal {
@@ -177,19 +157,20 @@ pub fn verdict_of(policy: &[u8], rules: u32, q: &[u8], table: &[u8], n: usize) -
                 first: 0,
                 second: 0,
             }),
-            judging: 0,
+            effect: no_effect(),
+            each,
         };
     }
-    let mask = fitting(policy, rules, q);
-    if mask == 0 {
+    let matched = match_rules(policy, checked, q);
+    if matched.fitting.is_empty() {
         return Verdict {
             fault: Fault::Nothing,
-            judging: 0,
+            effect: no_effect(),
+            each,
         };
     }
-    let attempt = judged_few(policy, rules, mask, q, table, n);
-    if attempt.whole {
-        return attempt.verdict;
+    if n <= 60 {
+        return judged_few(policy, Asked { matched, each }, q, table, n);
     }
-    judged_many(policy, rules, mask, q, table, n)
+    judged_many(policy, Asked { matched, each }, q, table, n)
 }
