@@ -4,7 +4,8 @@
  * One person adjusts an instrument, another checks it, however many visits lie between the two.
  * The engine is lent a duty policy and a table of earlier grants, takes one request, grants it or
  * refuses it by number, and brings the table up to date. It has no state of its own, allocates
- * nothing, opens nothing and calls nothing: all that it knows is in the bytes that it is lent.
+ * nothing and opens nothing: all that it knows is in the bytes that it is lent. Of its surroundings it
+ * needs `memset` and a stack, nothing else.
  *
  * Build with target/staticlib/libsod.a (made by `rt staticlib sod`, x86-64):
  *
@@ -18,6 +19,7 @@
  *   - While a call is at work on a table, no other thread reads or writes it, and none writes the
  *     policy or the request. Different tables may be decided on at the same time, under one policy.
  *   - No alignment is asked.
+ *   - SOD_STACK bytes of stack are free for each call, whatever the bytes and lengths.
  *
  * Nothing else is owed. Whatever the bytes and whatever the lengths, each call answers; it reads and
  * writes nothing outside what it was lent, and a refused call alters no byte. This is proved of the
@@ -77,6 +79,9 @@
 
 #include <stddef.h>
 #include <stdint.h>
+
+/* The stack that a call takes at the most, in bytes. */
+#define SOD_STACK 24576
 
 #ifdef __cplusplus
 extern "C" {

@@ -1,0 +1,210 @@
+//! The stack that a call takes, as include/sod.h states it: each call runs on a stack of just that
+//! size, below which lies a page that may not be touched.
+
+mod independent;
+
+use hastovimen::raw;
+use independent::images::*;
+use independent::Reply;
+use std::cell::Cell;
+use std::ffi::{c_int, c_long, c_void};
+use std::ptr::null_mut;
+
+/// The figure of include/sod.h.
+const STACK: usize = 24 * 1024;
+
+/// The header states the figure that is tested here.
+#[test]
+fn the_header_says_so() {
+    let header = include_str!("../../include/sod.h");
+    assert!(header.contains("#define SOD_STACK 24576"));
+    assert_eq!(STACK, 24576);
+}
+
+const PAGE: usize = 4096;
+const PROT_NONE: c_int = 0;
+const PROT_READ_WRITE: c_int = 3;
+const MAP_PRIVATE_ANONYMOUS: c_int = 0x22;
+
+/// glibc's `ucontext_t` on x86-64: where a context's stack and the next context stand is set by
+/// hand, and the rest is the C library's.
+#[repr(C, align(16))]
+struct Context {
+    flags: u64,
+    link: *mut Context,
+    stack: *mut c_void,
+    stack_flags: u64,
+    stack_size: usize,
+    rest: [u64; 123],
+}
+
+impl Context {
+    fn new() -> Context {
+        Context {
+            flags: 0,
+            link: null_mut(),
+            stack: null_mut(),
+            stack_flags: 0,
+            stack_size: 0,
+            rest: [0; 123],
+        }
+    }
+}
+
+// Of the C library, which std links in any case.
+extern "C" {
+    fn mmap(
+        at: *mut c_void,
+        len: usize,
+        prot: c_int,
+        flags: c_int,
+        fd: c_int,
+        from: c_long,
+    ) -> *mut c_void;
+    fn mprotect(at: *mut c_void, len: usize, prot: c_int) -> c_int;
+    fn getcontext(context: *mut Context) -> c_int;
+    fn makecontext(context: *mut Context, start: extern "C" fn(), arguments: c_int);
+    fn swapcontext(from: *mut Context, to: *const Context) -> c_int;
+}
+
+thread_local! {
+    static LENT: Cell<*mut Lent> = const { Cell::new(null_mut()) };
+}
+
+struct Lent {
+    call: Call,
+    policy: Vec<u8>,
+    table: Vec<u8>,
+    request: Vec<u8>,
+    reply: raw::Reply,
+}
+
+#[derive(Clone, Copy)]
+enum Call {
+    CheckPolicy,
+    CheckTable,
+    FreshTable,
+    Decide,
+}
+
+/// Runs on the small stack: nothing but the call.
+extern "C" fn start() {
+    // SAFETY: `on_small_stack` has set it, and waits.
+    let lent = unsafe { &mut *LENT.get() };
+    lent.reply = match lent.call {
+        Call::CheckPolicy => raw::check_policy(&lent.policy),
+        Call::CheckTable => raw::check_table(&lent.policy, &lent.table),
+        Call::FreshTable => raw::fresh_table(&lent.policy, &mut lent.table),
+        Call::Decide => raw::decide(&lent.policy, &mut lent.table, &lent.request),
+    };
+}
+
+/// The call's reply; the process ends where the stack does not suffice.
+fn on_small_stack(call: Call, policy: &[u8], table: &[u8], request: &[u8]) -> raw::Reply {
+    let mut lent = Lent {
+        call,
+        policy: policy.to_vec(),
+        table: table.to_vec(),
+        request: request.to_vec(),
+        reply: raw::Reply {
+            number: u32::MAX,
+            first: 0,
+            second: 0,
+            third: 0,
+        },
+    };
+    let (mut here, mut there) = (Context::new(), Context::new());
+    // SAFETY: the pages are mapped, the lowest may not be touched, and the context that runs on
+    // the others comes back here before anything of this frame goes.
+    unsafe {
+        let pages = mmap(
+            null_mut(),
+            PAGE + STACK,
+            PROT_READ_WRITE,
+            MAP_PRIVATE_ANONYMOUS,
+            -1,
+            0,
+        );
+        assert_ne!(pages as isize, -1);
+        assert_eq!(mprotect(pages, PAGE, PROT_NONE), 0);
+        LENT.set(&mut lent);
+        assert_eq!(getcontext(&mut there), 0);
+        there.stack = pages.byte_add(PAGE);
+        there.stack_size = STACK;
+        there.link = &mut here;
+        makecontext(&mut there, start, 0);
+        assert_eq!(swapcontext(&mut here, &there), 0);
+    }
+    lent.reply
+}
+
+/// A policy of 32 rules of 8 exclusions, and a full table of 128 blocks, all of it one user's and
+/// marked for all rules: a decision then takes the most room that it can.
+#[test]
+fn every_call_on_a_small_stack() {
+    let privilege = |operation| Privilege {
+        operation,
+        target: 1,
+    };
+    let exclusion = |x: u16| Exclusion {
+        m: 2,
+        members: if x % 2 == 0 {
+            Members::Privileges(vec![privilege(100 + x), privilege(200 + x)])
+        } else {
+            Members::Roles(vec![2, 3 + x])
+        },
+    };
+    let rule = Rule {
+        levels: vec![],
+        first: None,
+        last: Some(privilege(2)),
+        exclusions: (0..8).map(exclusion).collect(),
+    };
+    let permissions = (1..=3)
+        .map(|operation| Permission {
+            role: 1,
+            privilege: privilege(operation),
+        })
+        .collect();
+    let policy = write_policy(&Policy {
+        rules: vec![rule; 32],
+        permissions: vec![permissions],
+    });
+    let request = |operation| Request {
+        user: 7,
+        roles: 1,
+        privilege: privilege(operation),
+        context: vec![],
+    };
+    let record = Record {
+        request: request(1),
+        marks: u32::MAX,
+    };
+    for blocks in [1, 5, 128] {
+        for held in [0, places(blocks) - 1, places(blocks)] {
+            let table = write_table(sums(&policy), &vec![record.clone(); held], blocks);
+            let gets = |call, operation, expected: Reply| {
+                let reply =
+                    on_small_stack(call, &policy, &table, &write_request(&request(operation)));
+                let reply = [reply.number, reply.first, reply.second, reply.third];
+                let Reply {
+                    number,
+                    first,
+                    second,
+                    third,
+                } = expected;
+                assert_eq!(reply, [number, first, second, third]);
+            };
+            gets(Call::CheckPolicy, 1, Reply::accept(32));
+            gets(Call::CheckTable, 1, Reply::accept(held));
+            gets(Call::FreshTable, 1, Reply::accept(places(blocks)));
+            gets(Call::Decide, 4, Reply::refuse(31, 0, 0));
+            gets(Call::Decide, 2, Reply::grant(0, held, 0));
+            if held == places(blocks) {
+                gets(Call::Decide, 1, Reply::refuse(34, 0, 0));
+            } else {
+                gets(Call::Decide, 1, Reply::grant(1, 0, held + 1));
+            }
+        }
+    }
+}
