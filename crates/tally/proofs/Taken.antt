@@ -64,7 +64,7 @@ counting-more s t d k v c h e =
       same-members = c .same-members;
       same-length = length-set (t .times) k v ∙ c .same-length;
       before = set-before 0 (λ (n : ℕ). n) (t .times) k v (next s d) h (c .before)
-        (e ∙ ap₂ {C = ℕ} (λ n m. (n + cond (eqb d (memberAt m k)) 1 0) % 4294967296) (c .behind k (omega arith)) (c .same-members));
+          (e ∙ ap₂ {C = ℕ} (λ n m. (n + cond (eqb d (memberAt m k)) 1 0) % 4294967296) (c .behind k (omega arith)) (c .same-members));
       behind = λ i b. set-behind 0 (λ (n : ℕ). n) (t .times) k v i b ∙ c .behind i (omega arith);
     }
 

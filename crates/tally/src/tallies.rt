@@ -20,8 +20,8 @@ use fields::layout::EXCLUSION_BYTES;
 use fields::layout::EXCLUSION_KIND_AT;
 use fields::layout::EXCLUSION_M_AT;
 use fields::layout::EXCLUSION_N_AT;
-use fields::layout::MEMBERS_AT;
 use fields::layout::MEMBER_BYTES;
+use fields::layout::MEMBERS_AT;
 use fields::privilege::Packed;
 use fields::privilege::Privilege;
 use fields::request;
@@ -45,7 +45,10 @@ impl Tally {
     {
         let mut members = [Packed(0); 8];
         for k in 0..8usize {
-            members[k] = Privilege::read(b, MEMBERS_AT + EXCLUSION_BYTES * e + MEMBER_BYTES * k).packed();
+            members[k] = Privilege::read(
+                b,
+                MEMBERS_AT + EXCLUSION_BYTES * e + MEMBER_BYTES * k,
+            ).packed();
         }
         Tally {
             of_roles: b[EXCLUSION_KIND_AT + EXCLUSION_BYTES * e] == 1,
@@ -55,7 +58,8 @@ impl Tally {
         }
     }
 
-    // Takes in a record, or the request that asks. The eight members are compared at once: the loop has no exit.
+    // Takes in a record, or the request that asks. The eight members are compared at once: the loop has no exit. An operation has two
+    // bytes: else two privileges could make one number.
     pub fn add(mut self, roles: Roles, done: Packed) -> Self
         ensures { λ r. ⌜ ((x : Exclusion) (qs : List Request) (q : Request) → TallyOf x qs self → length qs < 4294967295 → roles .0 ≡ rolesOf q → done .0 ≡ packedOf (doneBy q) → operation q < 65536 → TallyOf x (qs ++ (q ∷ [])) r) ⌝ }
     {
@@ -70,7 +74,8 @@ impl Tally {
         self
     }
 
-    // "At m or more".
+    // "At m or more". The kind is read off the block: that the members of kind 1 are roles from 1 to 32 is known of the block, and not of
+    // any tally. The arrays are copied before they are walked, so that the tally itself can stay in registers.
     pub fn reached(self, b: &[u8], e: usize) -> bool
         requires { ⌜ (length (now b) ≡ blockBytes) × (e < 8) × (goodExclusion (exclusionAt (now b) e) ≡ true) ⌝ }
         ensures { λ r. ⌜ ((qs : List Request) → TallyOf (exclusionAt (now (b .entry)) e) qs self → length qs < 4294967296 → r ≡ reachedOf (exclusionAt (now (b .entry)) e) qs) ⌝ }

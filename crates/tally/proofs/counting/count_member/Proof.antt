@@ -2,7 +2,7 @@
 -- Assumes nothing.
 use Rattle.tally.specs.Code.{memberCounts}
 use native.Mathlib.Omega.{arith}
-use mathlib.Core.Path.{_≡_, sym, _∙_}
+use mathlib.Core.Path.{sym, _∙_}
 use borrow.Author.Needs.{needs}
 use Rattle.tally.proofs.counting.count_member.Statement.{statement}
 use Rattle.tally.proofs.counting.count_member.Tie as tie

@@ -6,10 +6,10 @@ use Rattle.tally.specs.Code.{memberAt}
 use Rattle.format.specs.Rule.{exclusionAt}
 use Rattle.fields.specs.Code.{packedOf}
 use Rattle.fields.specs.declared.privilege.Packed.{Packed}
-use lib.ListN.{length, getD-replicate}
+use lib.ListN.{length, getD-replicate, length-set}
 use native.Mathlib.Omega.{arith}
 use mathlib.Core.Path.{_≡_, refl, ap, _∙_}
-use Prim.Native.Nat.{ℕ, _-_, _≤_, _<_}
+use Prim.Native.Nat.{ℕ, _+_, _*_, _-_, _≤_, _<_}
 use borrow.Author.Needs.{needs}
 use Rattle.tally.proofs.tallies.Tally.of.Statement.{statement}
 use Rattle.tally.proofs.tallies.Tally.of.Tie as tie
@@ -55,7 +55,12 @@ loop-less : tie.Need-loop-less Inv-loop μ-loop
 loop-less c = search needs
 
 loop-again : tie.Need-loop-again Inv-loop μ-loop
-loop-again c = search needs
+loop-again c =
+    let a = c .before .before .before .before .before .args in
+    let l = c .before .before .before .loop in
+    let inv = l .inv .1 in
+    let v = c .packed .ensures ∙ ap packedOf (c .before .read .ensures) in
+    (omega arith, (length-set (l .members) (l .k) (c .packed .result) ∙ inv .0, set-before (record { 0 = 0 }) (λ (p : Packed). p .0) (l .members) (l .k) (c .packed .result) (λ i. packedOf (exclusionAt (a .b .now) (a .e) .member i)) (omega arith) (inv .1) v))
 
 mul-t16 : tie.Need-mul-t16 Inv-loop μ-loop
 mul-t16 c = search needs
@@ -67,7 +72,13 @@ shared-slice-read-t19 : tie.Need-shared-slice-read-t19 Inv-loop μ-loop
 shared-slice-read-t19 c = search needs
 
 returns : tie.Need-returns Inv-loop μ-loop
-returns c = search needs
+returns c =
+    let a = c .before .before .before .before .args in
+    let l = c .before .before .loop in
+    let known = c .before .before .before .shared-slice-known in
+    none-taken (exclusionAt (a .b .now) (a .e)) _ refl (l .inv .1 .0) refl
+    (λ k h. omega (arith, known .given (60 + 36 * a .e + 4 * k), known .given (60 + 36 * a .e + 4 * k + 1)))
+    (λ k h. l .inv .1 .1 k (omega arith)) refl (λ k h. getD-replicate 8 k 0 0 h)
 
 pub of-spec : {M : Type 1} → statement M
 of-spec =
