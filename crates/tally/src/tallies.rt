@@ -1,17 +1,18 @@
 // "The tally of an exclusion takes in the records one by one."
 ghost use mathlib.Core.Path.{_≡_};
-ghost use mathlib.Core.Bool.{true, cond};
+ghost use mathlib.Core.Bool.{true};
 ghost use mathlib.Core.List.{List, [], _∷_, _++_};
 ghost use Prim.Native.Nat.{ℕ, _≤_, _<_};
-ghost use lib.ListN.{length};
+ghost use lib.ListN.{length, getD};
 ghost use Rattle.format.specs.Layout.{blockBytes, requestBytes};
-ghost use Rattle.format.specs.Request.{Request, roles as rolesOf};
+ghost use Rattle.format.specs.Request.{Request, operation, roles as rolesOf};
 ghost use Rattle.format.specs.Rule.{Exclusion, exclusionAt, goodExclusion};
 ghost use Rattle.judge.specs.Tally.{reached as reachedOf};
 ghost use Rattle.fields.specs.Code.{packedOf, doneBy};
 ghost use Rattle.tally.specs.Code.{TallyOf, pastWords};
 use crate::counting::count_privileges;
 use crate::counting::count_roles;
+use crate::counting::one_if;
 use crate::past::past_done;
 use crate::past::past_roles;
 use fields::field::wide;
@@ -36,13 +37,6 @@ pub struct Tally {
     pub times: [u32; 8],
 }
 
-// 1 or 0: a count without a branch.
-fn one_if(b: bool) -> u32
-    ensures { λ r. ⌜ (r ≡ cond b 1 0) × (r ≤ 1) ⌝ }
-{
-    if b { 1 } else { 0 }
-}
-
 impl Tally {
     // The tally of exclusion e of a rule's block, with nothing taken in.
     pub fn of(b: &[u8], e: usize) -> Self
@@ -64,9 +58,10 @@ impl Tally {
         }
     }
 
-    // Takes in a record, or the request that asks. The eight members are compared at once: the loop has no exit.
+    // Takes in a record, or the request that asks. The eight members are compared at once: the loop has no exit. An operation has two
+    // bytes: else two privileges could make one number.
     pub fn add(mut self, roles: Roles, done: Packed) -> Self
-        ensures { λ r. ⌜ ((x : Exclusion) (qs : List Request) (q : Request) → TallyOf x qs self → length qs < 4294967295 → roles .0 ≡ rolesOf q → done .0 ≡ packedOf (doneBy q) → TallyOf x (qs ++ (q ∷ [])) r) ⌝ }
+        ensures { λ r. ⌜ ((x : Exclusion) (qs : List Request) (q : Request) → TallyOf x qs self → length qs < 4294967295 → roles .0 ≡ rolesOf q → done .0 ≡ packedOf (doneBy q) → operation q < 65536 → TallyOf x (qs ++ (q ∷ [])) r) ⌝ }
     {
         if self.of_roles {
             self.roles = self.roles.or(roles);
@@ -74,19 +69,20 @@ impl Tally {
         }
         for k in 0..8usize {
             let member = self.members[k];
-            self.times[k] = wrapping_add_u32(self.times[k], one_if(member.0 == done.0));
+            self.times[k] = wrapping_add_u32(self.times[k], one_if(done.0 == member.0));
         }
         self
     }
 
-    // "At m or more".
+    // "At m or more". The kind is read off the block: that the members of kind 1 are roles from 1 to 32 is known of the block, and not of
+    // any tally. The arrays are copied before they are walked, so that the tally itself can stay in registers.
     pub fn reached(self, b: &[u8], e: usize) -> bool
         requires { ⌜ (length (now b) ≡ blockBytes) × (e < 8) × (goodExclusion (exclusionAt (now b) e) ≡ true) ⌝ }
         ensures { λ r. ⌜ ((qs : List Request) → TallyOf (exclusionAt (now (b .entry)) e) qs self → length qs < 4294967296 → r ≡ reachedOf (exclusionAt (now (b .entry)) e) qs) ⌝ }
     {
         let n = wide(b[EXCLUSION_N_AT + EXCLUSION_BYTES * e]) as usize;
         let m = wide(b[EXCLUSION_M_AT + EXCLUSION_BYTES * e]);
-        if self.of_roles {
+        if b[EXCLUSION_KIND_AT + EXCLUSION_BYTES * e] == 1 {
             return m <= count_roles(b, e, n, self.roles);
         }
         let members = self.members;
@@ -99,7 +95,7 @@ impl Tally {
 pub fn reaches(b: &[u8], e: usize, past: &[u32], q: &[u8]) -> bool
     requires { ⌜ (length (now b) ≡ blockBytes) × (e < 8) × (goodExclusion (exclusionAt (now b) e) ≡ true) ⌝ }
     requires { ⌜ (length (now q) ≡ requestBytes) × (length (now past) ≤ 3840) ⌝ }
-    ensures { λ r. ⌜ ((qs : List Request) → now (past .entry) ≡ pastWords qs → r ≡ reachedOf (exclusionAt (now (b .entry)) e) (qs ++ (now (q .entry) ∷ []))) ⌝ }
+    ensures { λ r. ⌜ ((qs : List Request) → now (past .entry) ≡ pastWords qs → ((j : ℕ) → j < length qs → operation (getD qs j []) < 65536) → r ≡ reachedOf (exclusionAt (now (b .entry)) e) (qs ++ (now (q .entry) ∷ []))) ⌝ }
 {
     let mut tally = Tally::of(b, e);
     let n = past.len() / 2;

@@ -1,0 +1,6 @@
+pub mod Sums
+pub mod Lists
+pub mod Privileges
+pub mod Taken
+pub mod Exclusions
+pub mod PastWords
