@@ -5,7 +5,7 @@ use native.Mathlib.Omega.{arith}
 use mathlib.Core.Path.{_≡_, refl, sym, ap, _∙_}
 use mathlib.Core.Bool.{Bool, true, false, cond, _&&_, _||_}
 use mathlib.Core.List.{List}
-use borrow.Author.Tests.{leb-true, eqb-true}
+use borrow.Author.Tests.{leb-true, eqb-true, eq-eqb, ne-eqb}
 use lib.ListN.{length, getD}
 use lib.Dec.{eqb, leb, ltb}
 use Rattle.words.specs.Lists.{keep, anyOf, allBelow}
@@ -72,10 +72,10 @@ module _ (x : Exclusion) (i : ℕ) (qs : List Request) where
 -- ---- kind 1
 
 module _ (b : List ℕ) (e : ℕ) (qs : List Request) (t : Tally) (good : goodExclusion (exclusionAt b e) ≡ true) (of : TallyOf (exclusionAt b e) qs t) where
-  pub roles-tally : t .«of_roles» ≡ true → rolesAmong b e (exclusionAt b e .n) (t .roles .0) ≡ tally (exclusionAt b e) qs
+  pub roles-tally : t .kind ≡ 1 → rolesAmong b e (exclusionAt b e .n) (t .roles .0) ≡ tally (exclusionAt b e) qs
   unfolding rolesAmong tally roleTally
   roles-tally is =
-      let one : eqb (exclusionAt b e .kind) 1 ≡ true = sym (of .kind) ∙ is in
+      let one : eqb (exclusionAt b e .kind) 1 ≡ true = eq-eqb (exclusionAt b e .kind) 1 (sym (of .kind) ∙ is) in
       rw one
       (sumBelow-same (exclusionAt b e .n) _ _
       (λ i h.
@@ -99,13 +99,13 @@ module _ (x : Exclusion) (qs : List Request) (t : Tally) (good : goodExclusion x
   listed-same i h =
       sumBelow-same (x .n) _ _ (λ j k. ap (λ (a : Bool). cond a 1 0) (member-same j i (omega (arith, n-most x good)) h))
 
-  done-same : t .«of_roles» ≡ false → (i : ℕ) → i < 8 → getD (t .times) i 0 ≡ timesDone x i qs
-  done-same is i h = of .done is i h ∙ done-counts x i qs (sym (of .kind) ∙ is)
+  done-same : (t .kind ≡ 1 → ⊥) → (i : ℕ) → i < 8 → getD (t .times) i 0 ≡ timesDone x i qs
+  done-same is i h = of .done is i h ∙ done-counts x i qs (ne-eqb (x .kind) 1 (λ e. is (of .kind ∙ e)))
 
-  pub privileges-tally : t .«of_roles» ≡ false → membersCount (t .members) (t .times) (x .n) ≡ tally x qs
+  pub privileges-tally : (t .kind ≡ 1 → ⊥) → membersCount (t .members) (t .times) (x .n) ≡ tally x qs
   unfolding membersCount memberCounts tally privilegeTally
   privileges-tally is =
-      let two : eqb (x .kind) 1 ≡ false = sym (of .kind) ∙ is in
+      let two : eqb (x .kind) 1 ≡ false = ne-eqb (x .kind) 1 (λ e. is (of .kind ∙ e)) in
       rw two
       (sumBelow-same (x .n) _ _
       (λ i h.

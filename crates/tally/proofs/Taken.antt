@@ -24,7 +24,7 @@ use Rattle.tally.proofs.Privileges.{packed-does}
 
 -- nothing taken in
 pub none-taken :
-    (x : Exclusion) (t : Tally) → t .«of_roles» ≡ eqb (x .kind) 1 → length (t .members) ≡ 8 → length (t .times) ≡ 8
+    (x : Exclusion) (t : Tally) → t .kind ≡ x .kind → length (t .members) ≡ 8 → length (t .times) ≡ 8
     → ((k : ℕ) → k < 8 → x .member k .operation < 65536) → ((k : ℕ) → k < 8 → memberAt (t .members) k ≡ packedOf (x .member k))
     → t .roles .0 ≡ 0 → ((k : ℕ) → k < 8 → getD (t .times) k 0 ≡ 0) → TallyOf x [] t
 unfolding anyOf keep
@@ -39,13 +39,13 @@ none-taken x t h e f s m r z =
       done = λ g k b. z k b;
     }
 
--- count k after what is done: it wraps, which it never comes to
+-- count k after what is done. (The remainder keeps the sum in bounds; no count comes to it.)
 abbrev pub next : Tally → ℕ → ℕ → ℕ
-next s d k = (getD (s .times) k 0 + cond (eqb d (memberAt (s .members) k)) 1 0) % 4294967296
+next s d k = getD (s .times) k 0 % 65536 + cond (eqb d (memberAt (s .members) k)) 1 0
 
 -- the loop over the members: in t, the first k counts of s have gone on
 pub record Counting (s t : Tally) (d k : ℕ) : Type 0 where
-  pub same-kind : t .«of_roles» ≡ s .«of_roles»
+  pub same-kind : t .kind ≡ s .kind
   pub same-members : t .members ≡ s .members
   pub same-length : length (t .times) ≡ length (s .times)
   pub before : (i : ℕ) → i < k → getD (t .times) i 0 ≡ next s d i
@@ -57,25 +57,25 @@ counting-none s d =
 
 pub counting-more :
     (s t : Tally) (d k v : ℕ) → Counting s t d k → k < length (t .times) → v ≡ next t d k
-    → Counting s (record { «of_roles» = t .«of_roles»; roles = t .roles; members = t .members; times = set (t .times) k v }) d (k + 1)
+    → Counting s (record { kind = t .kind; roles = t .roles; members = t .members; times = set (t .times) k v }) d (k + 1)
 counting-more s t d k v c h e =
     record {
       same-kind = c .same-kind;
       same-members = c .same-members;
       same-length = length-set (t .times) k v ∙ c .same-length;
       before = set-before 0 (λ (n : ℕ). n) (t .times) k v (next s d) h (c .before)
-          (e ∙ ap₂ {C = ℕ} (λ n m. (n + cond (eqb d (memberAt m k)) 1 0) % 4294967296) (c .behind k (omega arith)) (c .same-members));
+          (e ∙ ap₂ {C = ℕ} (λ n m. n % 65536 + cond (eqb d (memberAt m k)) 1 0) (c .behind k (omega arith)) (c .same-members));
       behind = λ i b. set-behind 0 (λ (n : ℕ). n) (t .times) k v i b ∙ c .behind i (omega arith);
     }
 
 module _
     (x : Exclusion) (qs : List Request) (q : Request) (s t : Tally) (of : TallyOf x qs s)
-    (same-kind : t .«of_roles» ≡ s .«of_roles») (same-members : t .members ≡ s .members) where
+    (same-kind : t .kind ≡ s .kind) (same-members : t .members ≡ s .members) where
   same-member : (k : ℕ) → k < 8 → memberAt (t .members) k ≡ packedOf (x .member k)
   same-member k b = ap (λ (m : List Packed). memberAt m k) same-members ∙ of .member k b
 
   pub roles-taken :
-      (active : ℕ) → s .«of_roles» ≡ true → t .times ≡ s .times → active ≡ roles q → t .roles .0 ≡ bitOr (s .roles .0) active
+      (active : ℕ) → s .kind ≡ 1 → t .times ≡ s .times → active ≡ roles q → t .roles .0 ≡ bitOr (s .roles .0) active
       → TallyOf x (qs ++ (q ∷ [])) t
   roles-taken active is same e f =
       record {
@@ -87,11 +87,11 @@ module _
         active = λ g k b.
             rw (f, bit-or k (s .roles .0) active, any-snoc (λ r. bit k (roles r)) qs q, e)
             (ap (λ (a : Bool). a || bit k (roles q)) (of .active is k b));
-        done = λ g. absurd (false≢true (sym g ∙ same-kind ∙ is));
+        done = λ g. absurd (g (same-kind ∙ is));
       }
 
   pub done-taken :
-      (d : ℕ) → s .«of_roles» ≡ false → length (t .times) ≡ 8 → length qs < 4294967295 → operation q < 65536
+      (d : ℕ) → (s .kind ≡ 1 → ⊥) → length (t .times) ≡ 8 → length qs < 65536 → operation q < 65536
       → d ≡ packedOf (doneBy q) → ((k : ℕ) → k < 8 → getD (t .times) k 0 ≡ next s d k) → TallyOf x (qs ++ (q ∷ [])) t
   done-taken d is counted few small e f =
       record {
@@ -100,13 +100,12 @@ module _
         counted = counted;
         small = of .small;
         member = same-member;
-        active = λ g. absurd (false≢true (sym is ∙ sym same-kind ∙ g));
+        active = λ g. absurd (is (sym same-kind ∙ g));
         done = λ g k b.
             f k b
             ∙ rw (of .done is k b, e, of .member k b, packed-does q (x .member k) small (of .small k b), count-snoc (does (x .member k)) qs q)
             (fits (length (keep (does (x .member k)) qs)) (omega (arith, count-most (does (x .member k)) qs)) (does (x .member k) q));
       }
     where
-      fits : (n : ℕ) → n < 4294967295 → (b : Bool) → (n + cond b 1 0) % 4294967296 ≡ n + cond b 1 0
-      fits n h true = omega arith
-      fits n h false = omega arith
+      fits : (n : ℕ) → n < 65536 → (b : Bool) → n % 65536 + cond b 1 0 ≡ n + cond b 1 0
+      fits n h b = let e : n % 65536 ≡ n = omega arith in rw e

@@ -33,15 +33,15 @@ memberAt members k = getD members k (record { 0 = 0 }) .0
 
 -- the tally of exclusion x when the requests qs are taken in
 pub record TallyOf (x : Exclusion) (qs : List Request) (t : Tally) : Type 0 where
-  pub kind : t .«of_roles» ≡ eqb (x .kind) 1
+  pub kind : t .kind ≡ x .kind
   pub eight : length (t .members) ≡ 8
   pub counted : length (t .times) ≡ 8
   pub small : (k : ℕ) → k < 8 → x .member k .operation < 65536
   pub member : (k : ℕ) → k < 8 → memberAt (t .members) k ≡ packedOf (x .member k)
   -- of roles: all that were active
-  pub active : t .«of_roles» ≡ true → (k : ℕ) → k < 32 → bit k (t .roles .0) ≡ anyOf (λ q. bit k (roles q)) qs
+  pub active : t .kind ≡ 1 → (k : ℕ) → k < 32 → bit k (t .roles .0) ≡ anyOf (λ q. bit k (roles q)) qs
   -- of privileges: how often member k was done
-  pub done : t .«of_roles» ≡ false → (k : ℕ) → k < 8 → getD (t .times) k 0 ≡ length (keep (does (x .member k)) qs)
+  pub done : (t .kind ≡ 1 → ⊥) → (k : ℕ) → k < 8 → getD (t .times) k 0 ≡ length (keep (does (x .member k)) qs)
 
 -- ---- what the members count
 

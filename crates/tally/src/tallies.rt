@@ -26,12 +26,11 @@ use fields::privilege::Packed;
 use fields::privilege::Privilege;
 use fields::request;
 use fields::sets::Roles;
-use std::num::wrapping_add_u32;
 
 // What an exclusion counts of the requests taken in: for one of roles all the roles that were active, for one of privileges how often
 // each of its eight members was done. Members past its number are there too, and are not looked at.
 pub struct Tally {
-    pub of_roles: bool,
+    pub kind: u8,
     pub roles: Roles,
     pub members: [Packed; 8],
     pub times: [u32; 8],
@@ -51,7 +50,7 @@ impl Tally {
             ).packed();
         }
         Tally {
-            of_roles: b[EXCLUSION_KIND_AT + EXCLUSION_BYTES * e] == 1,
+            kind: b[EXCLUSION_KIND_AT + EXCLUSION_BYTES * e],
             roles: Roles(0),
             members,
             times: [0u32; 8],
@@ -61,15 +60,15 @@ impl Tally {
     // Takes in a record, or the request that asks. The eight members are compared at once: the loop has no exit. An operation has two
     // bytes: else two privileges could make one number.
     pub fn add(mut self, roles: Roles, done: Packed) -> Self
-        ensures { λ r. ⌜ ((x : Exclusion) (qs : List Request) (q : Request) → TallyOf x qs self → length qs < 4294967295 → roles .0 ≡ rolesOf q → done .0 ≡ packedOf (doneBy q) → operation q < 65536 → TallyOf x (qs ++ (q ∷ [])) r) ⌝ }
+        ensures { λ r. ⌜ ((x : Exclusion) (qs : List Request) (q : Request) → TallyOf x qs self → length qs < 65536 → roles .0 ≡ rolesOf q → done .0 ≡ packedOf (doneBy q) → operation q < 65536 → TallyOf x (qs ++ (q ∷ [])) r) ⌝ }
     {
-        if self.of_roles {
+        if self.kind == 1 {
             self.roles = self.roles.or(roles);
             return self;
         }
         for k in 0..8usize {
             let member = self.members[k];
-            self.times[k] = wrapping_add_u32(self.times[k], one_if(done.0 == member.0));
+            self.times[k] = self.times[k] % 65536 + one_if(done.0 == member.0);
         }
         self
     }
@@ -78,7 +77,7 @@ impl Tally {
     // any tally. The arrays are copied before they are walked, so that the tally itself can stay in registers.
     pub fn reached(self, b: &[u8], e: usize) -> bool
         requires { ⌜ (length (now b) ≡ blockBytes) × (e < 8) × (goodExclusion (exclusionAt (now b) e) ≡ true) ⌝ }
-        ensures { λ r. ⌜ ((qs : List Request) → TallyOf (exclusionAt (now (b .entry)) e) qs self → length qs < 4294967296 → r ≡ reachedOf (exclusionAt (now (b .entry)) e) qs) ⌝ }
+        ensures { λ r. ⌜ ((qs : List Request) → TallyOf (exclusionAt (now (b .entry)) e) qs self → length qs < 65537 → r ≡ reachedOf (exclusionAt (now (b .entry)) e) qs) ⌝ }
     {
         let n = wide(b[EXCLUSION_N_AT + EXCLUSION_BYTES * e]) as usize;
         let m = wide(b[EXCLUSION_M_AT + EXCLUSION_BYTES * e]);

@@ -32,20 +32,20 @@ mul-member c = search needs
 element-copy-out-member : tie.Need-element-copy-out-member Inv-loop μ-loop
 element-copy-out-member c = search needs
 
-mul-wrapping-add-u32 : tie.Need-mul-wrapping-add-u32 Inv-loop μ-loop
-mul-wrapping-add-u32 c = search needs
+mul-self : tie.Need-mul-self Inv-loop μ-loop
+mul-self c = search needs
 
-element-copy-out-wrapping-add-u32 : tie.Need-element-copy-out-wrapping-add-u32 Inv-loop μ-loop
-element-copy-out-wrapping-add-u32 c = search needs
+element-copy-out-self : tie.Need-element-copy-out-self Inv-loop μ-loop
+element-copy-out-self c = search needs
 
 one-if-requires : tie.Need-one-if-requires Inv-loop μ-loop
 one-if-requires c κs = search needs
 
-wrapping-add-u32-requires : tie.Need-wrapping-add-u32-requires Inv-loop μ-loop
-wrapping-add-u32-requires c κs = search needs
+add-self : tie.Need-add-self Inv-loop μ-loop
+add-self c = search needs
 
-mul-self : tie.Need-mul-self Inv-loop μ-loop
-mul-self c = search needs
+mul-self-2 : tie.Need-mul-self-2 Inv-loop μ-loop
+mul-self-2 c = search needs
 
 element-write-self : tie.Need-element-write-self Inv-loop μ-loop
 element-write-self c = search needs
@@ -58,10 +58,10 @@ loop-less c = search needs
 
 loop-again : tie.Need-loop-again Inv-loop μ-loop
 loop-again c =
-    let l = c .before .before .before .before .before .before .before .loop in
-    let a = c .before .before .before .before .before .before .before .before .before .args in
-    let v = c .wrapping-add-u32 .ensures ∙ ap (λ (n : ℕ). (getD (l .self .times) (l .k) 0 + n) % 4294967296) (c .before .one-if .ensures .0) in
-    (omega arith, λ e. counting-more (a .t1) (l .self) (a .done .0) (l .k) (c .wrapping-add-u32 .result) (l .inv .1 e) (omega (arith, l .inv .1 e .same-length)) v)
+    let l = c .before .before .before .before .before .before .loop in
+    let a = c .before .before .before .before .before .before .before .before .args in
+    let v = ap (λ (n : ℕ). getD (l .self .times) (l .k) 0 % 65536 + n) (c .one-if .ensures .0) in
+    (omega arith, λ e. counting-more (a .t1) (l .self) (a .done .0) (l .k) _ (l .inv .1 e) (omega (arith, l .inv .1 e .same-length)) v)
 
 returns-2 : tie.Need-returns-2 Inv-loop μ-loop
 returns-2 c x qs q of few e d small =
@@ -81,11 +81,11 @@ add-spec =
     loop-holds
     mul-member
     element-copy-out-member
-    mul-wrapping-add-u32
-    element-copy-out-wrapping-add-u32
-    one-if-requires
-    wrapping-add-u32-requires
     mul-self
+    element-copy-out-self
+    one-if-requires
+    add-self
+    mul-self-2
     element-write-self
     add-k
     loop-less

@@ -7,7 +7,7 @@ use Rattle.format.specs.Rule.{exclusionAt}
 use borrow.Author.Tests.{eq-eqb, ne-eqb}
 use lib.Dec.{leb}
 use native.Mathlib.Omega.{arith}
-use mathlib.Core.Path.{ap, ap₂, _∙_}
+use mathlib.Core.Path.{_≡_, sym, ap, ap₂, _∙_}
 use mathlib.Core.Bool.{Bool}
 use Prim.Native.Nat.{ℕ}
 use borrow.Author.Needs.{needs}
@@ -65,7 +65,7 @@ returns c qs of few =
     let a = s .args in
     let x = exclusionAt (a .b .now) (a .e) in
     let n = ap (λ (k : ℕ). rolesAmong (a .b .now) (a .e) k (a .self .roles .0)) (c .before .before .before .before .before .wide .ensures .0) in
-    let is = of .kind ∙ eq-eqb (x .kind) 1 (c .before .if1 .taken) in
+    let is = of .kind ∙ c .before .if1 .taken in
     ap₂ {C = Bool} leb (c .before .before .before .wide2 .ensures .0) (c .count-roles .ensures ∙ n ∙ roles-tally (a .b .now) (a .e) qs (a .self) (s .pre .2) of is)
 
 count-privileges-requires : tie.Need-count-privileges-requires
@@ -82,7 +82,7 @@ returns-2 c qs of few =
     let a = s .args in
     let x = exclusionAt (a .b .now) (a .e) in
     let n = ap (λ (k : ℕ). membersCount (a .self .members) (a .self .times) k) (c .before .before .before .before .before .before .before .wide .ensures .0) in
-    let is = of .kind ∙ ne-eqb (x .kind) 1 (c .before .before .before .if1 .left) in
+    let is : a .self .kind ≡ 1 → ⊥ = λ k. c .before .before .before .if1 .left (sym (of .kind) ∙ k) in
     ap₂ {C = Bool} leb (c .before .before .before .before .before .wide2 .ensures .0) (c .count-privileges .ensures ∙ n ∙ privileges-tally x qs (a .self) (s .pre .2) of is)
 
 pub reached-spec : {M : Type 1} → statement M
