@@ -31,32 +31,33 @@ pastWords qs = flatten (map wordsOf qs)
 abbrev pub memberAt : List Packed → ℕ → ℕ
 memberAt members k = getD members k (record { 0 = 0 }) .0
 
--- the tally of exclusion x when the requests qs are taken in
+-- "The tally of an exclusion takes in the records one by one": t is the tally of exclusion x with the requests qs taken in
 pub record TallyOf (x : Exclusion) (qs : List Request) (t : Tally) : Type 0 where
   pub kind : t .kind ≡ x .kind
   pub eight : length (t .members) ≡ 8
   pub counted : length (t .times) ≡ 8
+  -- a member's operation has two bytes, and the member is in one number
   pub small : (k : ℕ) → k < 8 → x .member k .operation < 65536
   pub member : (k : ℕ) → k < 8 → memberAt (t .members) k ≡ packedOf (x .member k)
-  -- of roles: all that were active
+  -- of roles: "all their active roles"
   pub active : t .kind ≡ 1 → (k : ℕ) → k < 32 → bit k (t .roles .0) ≡ anyOf (λ q. bit k (roles q)) qs
-  -- of privileges: how often member k was done
+  -- of privileges: the "times done" of each member
   pub done : (t .kind ≡ 1 → ⊥) → (k : ℕ) → k < 8 → getD (t .times) k 0 ≡ length (keep (does (x .member k)) qs)
 
 -- ---- what the members count
 
--- how many of the n member roles of exclusion e are among these
+-- "Kind 1: how many member roles appear": of the n members of exclusion e in a block, those among these roles
 unfoldable pub rolesAmong : List ℕ → ℕ → ℕ → ℕ → ℕ
 rolesAmong b e n all = sumBelow n (λ k. cond (bit (u16At b (60 + 36 * e + 4 * k) - 1) all) 1 0)
 
--- of the first n members, how many are member k; whether an earlier one is
+-- the "times listed" of member k among the first n; and whether it repeats an earlier one
 unfoldable pub listed : List Packed → ℕ → ℕ → ℕ
 listed members n k = sumBelow n (λ j. cond (eqb (memberAt members j) (memberAt members k)) 1 0)
 
 unfoldable pub repeated : List Packed → ℕ → Bool
 repeated members k = anyBelow k (λ j. eqb (memberAt members j) (memberAt members k))
 
--- what member k counts, and what the first n count
+-- "Kind 2: each different member counts min(times listed, times done), summed": member k, and the first n
 unfoldable pub memberCounts : List Packed → List ℕ → ℕ → ℕ → ℕ
 memberCounts members times n k = cond (repeated members k) 0 (min (listed members n k) (getD times k 0))
 
