@@ -2,22 +2,19 @@
 ghost use mathlib.Core.Path.{_≡_};
 ghost use mathlib.Core.Option.{none};
 ghost use lib.ListN.{length};
-ghost use Rattle.sums.specs.Code.{sumsOf};
-ghost use Rattle.format.specs.Policy.{policyFault, ruleCount, stamp as stampOf};
 ghost use Rattle.format.specs.Request.{requestFault};
 ghost use Rattle.format.specs.Table.{tableFault, recordsOf};
 ghost use Rattle.judge.specs.Decide.{decide as decideOf};
+ghost use Rattle.policy_check.specs.Code.{CheckedIs};
 ghost use Rattle.update.specs.Updating.{answerOf as updatedOf};
 ghost use Rattle.engine.specs.Code.{answerOf, outcome};
-use crate::checks::stamp_of;
-use crate::reply::Grant;
 use crate::reply::Reply;
 use format::answer::Fault;
 use format::answer::Refusal;
+use policy_check::policy::Checked;
 use policy_check::policy::policy_fault;
-use policy_check::policy::rule_count;
+use policy_check::policy::rules_and_stamp;
 use request_check::request::request_fault;
-use sums::sum::Sum;
 use table_check::tables::record_count;
 use table_check::tables::table_fault;
 use update::grant::Updated;
@@ -31,67 +28,53 @@ pub fn decide(policy: &[u8], table: &mut [u8], request: &[u8]) -> Reply
     let fault = policy_fault(policy);
     match fault {
         Fault::At(r) => Reply::Refused(r),
-        Fault::Nothing => decide_under(
-            policy,
-            rule_count(policy),
-            stamp_of(policy),
-            table,
-            request,
-        ),
+        Fault::Nothing => decide_under(policy, rules_and_stamp(policy), table, request),
     }
 }
 
 // The same under a policy that has passed.
-fn decide_under(policy: &[u8], rules: u32, stamp: Sum, table: &mut [u8], request: &[u8]) -> Reply
-    requires { ⌜ (policyFault (now policy) ≡ none) × (rules ≡ ruleCount (now policy)) × (sumsOf stamp ≡ stampOf (now policy)) ⌝ }
+fn decide_under(policy: &[u8], checked: Checked, table: &mut [u8], request: &[u8]) -> Reply
+    requires { ⌜ CheckedIs (now policy) checked ⌝ }
     ensures { λ r. ⌜ outcome (answerOf r) (now (table .exit)) ≡ decideOf (now (policy .entry)) (now (table .entry)) (now (request .entry)) ⌝ }
 {
-    let fault = table_fault(policy, rules, stamp, table);
+    let fault = table_fault(policy, checked, table);
     match fault {
         Fault::At(r) => Reply::Refused(r),
-        Fault::Nothing => decide_request(policy, rules, stamp, table, request),
+        Fault::Nothing => decide_request(policy, checked, table, request),
     }
 }
 
 // The same on a table that has passed.
-fn decide_request(policy: &[u8], rules: u32, stamp: Sum, table: &mut [u8], request: &[u8]) -> Reply
-    requires { ⌜ (policyFault (now policy) ≡ none) × (rules ≡ ruleCount (now policy)) × (sumsOf stamp ≡ stampOf (now policy)) ⌝ }
+fn decide_request(policy: &[u8], checked: Checked, table: &mut [u8], request: &[u8]) -> Reply
+    requires { ⌜ CheckedIs (now policy) checked ⌝ }
     requires { ⌜ tableFault (now policy) (now table) ≡ none ⌝ }
     ensures { λ r. ⌜ outcome (answerOf r) (now (table .exit)) ≡ decideOf (now (policy .entry)) (now (table .entry)) (now (request .entry)) ⌝ }
 {
     let fault = request_fault(request);
     match fault {
         Fault::At(r) => Reply::Refused(r),
-        Fault::Nothing => decide_good(policy, rules, stamp, table, record_count(table), request),
+        Fault::Nothing => decide_good(policy, checked, table, record_count(table), request),
     }
 }
 
 // The judgement of a good request over the n records of a table.
-fn decide_good(
-    policy: &[u8],
-    rules: u32,
-    stamp: Sum,
-    table: &mut [u8],
-    n: usize,
-    request: &[u8],
-) -> Reply
-    requires { ⌜ (policyFault (now policy) ≡ none) × (rules ≡ ruleCount (now policy)) × (sumsOf stamp ≡ stampOf (now policy)) ⌝ }
+fn decide_good(policy: &[u8], checked: Checked, table: &mut [u8], n: usize, request: &[u8]) -> Reply
+    requires { ⌜ CheckedIs (now policy) checked ⌝ }
     requires { ⌜ (tableFault (now policy) (now table) ≡ none) × (n ≡ length (recordsOf (now table))) ⌝ }
     requires { ⌜ requestFault (now request) ≡ none ⌝ }
     ensures { λ r. ⌜ outcome (answerOf r) (now (table .exit)) ≡ decideOf (now (policy .entry)) (now (table .entry)) (now (request .entry)) ⌝ }
 {
-    let verdict = verdict_of(policy, rules, request, table, n);
+    let verdict = verdict_of(policy, checked, request, table, n);
     let fault = verdict.fault;
     match fault {
         Fault::At(r) => Reply::Refused(r),
         Fault::Nothing => reply_of(update(
-            policy,
-            rules,
-            stamp,
+            checked.stamp,
+            verdict.each,
+            verdict.effect,
             request,
             table,
             n,
-            verdict.judging,
         )),
     }
 }
@@ -106,10 +89,6 @@ fn reply_of(updated: Updated) -> Reply
             first: 0,
             second: 0,
         }),
-        Updated::Granted(g) => Reply::Granted(Grant {
-            recorded: g.recorded,
-            removed: g.removed,
-            held: g.held,
-        }),
+        Updated::Granted(g) => Reply::Granted(g),
     }
 }
