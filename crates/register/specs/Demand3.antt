@@ -8,7 +8,7 @@
 --            counts, in the order granted, marked for exactly those rules;
 --   nobody:  at no point has any user reached the forbidden number in any run of a rule, the step just granted counted in.
 --
--- The proof is proofs/Demand3.antt of this crate.
+-- The proof is crates/demand3/proofs/Demand3.antt.
 -- Assumes nothing.
 use Prim.Native.Nat.{ℕ, _≤_}
 use mathlib.Core.Path.{_≡_}

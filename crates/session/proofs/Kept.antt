@@ -16,8 +16,8 @@ use Rattle.format.specs.Calls.{makeTable}
 use Rattle.judge.specs.Decide.{decide}
 use Rattle.register.specs.Demand3.{answers, Kept, Demand3}
 use Rattle.register.specs.Consequences.{after}
-use Rattle.register.proofs.Demand3.{demand-3}
-use Rattle.register.proofs.Consequences.{last-table}
+use Rattle.demand3.proofs.Demand3.{demand-3}
+use Rattle.demand3.proofs.Consequences.{last-table}
 use Rattle.engine.proofs.Checked.{Blocked, good-blocked}
 use Rattle.session.specs.Session.{written, AsRegister, Ran}
 

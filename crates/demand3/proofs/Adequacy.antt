@@ -13,9 +13,9 @@ use Rattle.word_laws.proofs.Every.{Every, empty, more as also, every-weaken, ev
 use Rattle.word_laws.proofs.Tests.{both-first}
 use Rattle.format.specs.Request.{Request}
 use Rattle.format.specs.Policy.{Policy}
 use Rattle.register.specs.Run.{Entry, numbered, entriesOf}
 use Rattle.register.specs.Register.{runOf, isIn, lies}
-use Rattle.register.proofs.Lies.{stands, run-lies}
+use Rattle.demand3.proofs.Lies.{stands, run-lies}
 
 numbered-from : (k : ℕ) (l : List Request) → Every (λ x. k ≤ x .at) (numbered k l)
 unfolding numbered

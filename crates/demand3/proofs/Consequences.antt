@@ -17,14 +17,14 @@ use Rattle.format.specs.Table.{Record, tableFault, tableImage, recordsOf, fresh
 use Rattle.judge.specs.NewTable.{judge, grantOf, judgeFault}
 use Rattle.judge.specs.Decide.{decide, decideFault}
 use Rattle.words.specs.Lists.{keep}
 use Rattle.register.specs.Run.{entriesOf, numbered}
 use Rattle.register.specs.Register.{heldOf, registerFault, granted, registerStep}
 use Rattle.register.specs.Image.{recordsFor, registerImage}
 use Rattle.register.specs.Demand3.{Demand3, answers}
 use Rattle.register.specs.Consequences.{after, recordedSum, removedSum, Balanced, Passes, Untouched}
-use Rattle.register.proofs.GoodRecords.{Granted}
-use Rattle.register.proofs.Step.{records-held, balance}
-use Rattle.register.proofs.Demand3.{demand-3, imaged, decide-step, fine-step, fresh-image, fine-start, image-passes, image-records}
+use Rattle.demand3.proofs.GoodRecords.{Granted}
+use Rattle.demand3.proofs.Step.{records-held, balance}
+use Rattle.demand3.proofs.Demand3.{demand-3, imaged, decide-step, fine-step, fresh-image, fine-start, image-passes, image-records}
 
 apart : (recorded removed held : ℕ) (r : Refusal) → grant recorded removed held ≡ refuse r → ⊥
 apart recorded removed held r e = let z : _≡_ {A = ℕ} 0 1 = cc in omega arith

@@ -22,12 +22,12 @@ use Rattle.format.specs.Fits.{fits, place}
 use Rattle.format.specs.Policy.{Policy}
 use Rattle.judge.specs.Tally.{sameUser, roleTally, timesListed, timesDone, repeats, privilegeTally, tally, reached, exclusionNumber, counted}
 use Rattle.judge.specs.Verdict.{permitted, isFirst, isLast, judges, failing, verdict}
 use Rattle.register.specs.Run.{Entry, entriesOf, ofPlace, run}
 use Rattle.register.specs.Register.{runOf, openRun, pastRun, registerFault, granted, registerStep}
 use Rattle.register.specs.Reached.{NobodyIn, standing, withStep, Nobody}
 use Rattle.register.specs.Demand3.{AtGrant, NobodyEver}
-use Rattle.register.proofs.Run.{next, entries-nil, run-nil, runNext, continues}
-use Rattle.register.proofs.Lies.{runOf-snoc}
+use Rattle.demand3.proofs.Run.{next, entries-nil, run-nil, runNext, continues}
+use Rattle.demand3.proofs.Lies.{runOf-snoc}
 
 -- ---- no requests, no count
 

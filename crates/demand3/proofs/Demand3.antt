@@ -25,13 +25,13 @@ use Rattle.format_laws.proofs.TableImage.{image-blocks, reads-back, passes}
 use Rattle.format_laws.proofs.AcceptedPolicy.{rules-most, m-two}
 use Rattle.judge.specs.NewTable.{judgeFault, judge, grantOf, openIn, tableAfter}
 use Rattle.judge.specs.Decide.{decideFault, decide}
 use Rattle.register.specs.Run.{entriesOf, numbered}
 use Rattle.register.specs.Register.{heldOf, liesInSome, registerFault, granted, registerStep}
 use Rattle.register.specs.Image.{recordFor, recordsFor, registerImage}
 use Rattle.register.specs.Demand3.{answers, states, Kept, Demand3}
-use Rattle.register.proofs.Step.{records-held, fault-same, grant-same, table-same}
-use Rattle.register.proofs.GoodRecords.{Granted, records-good, records-whole}
-use Rattle.register.proofs.Nobody.{Positive, nobody-ever}
+use Rattle.demand3.proofs.Step.{records-held, fault-same, grant-same, table-same}
+use Rattle.demand3.proofs.GoodRecords.{Granted, records-good, records-whole}
+use Rattle.demand3.proofs.Nobody.{Positive, nobody-ever}
 
 module _ (policy : List ℕ) (accepted : policyFault policy ≡ none) (b : ℕ) (some-block : 1 ≤ b) (few-blocks : b ≤ tableBlocks) where
   abbrev p : Policy

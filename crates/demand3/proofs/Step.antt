@@ -23,11 +23,11 @@ use Rattle.format.specs.Policy.{Policy}
 use Rattle.format.specs.Table.{Record, marked, hasMark}
 use Rattle.judge.specs.Verdict.{judges, failing, permitted, isLast, verdict}
 use Rattle.judge.specs.NewTable.{standsIn, openIn, pastIn, ends, gives, recordOf, cleared, sweep, newTable, grantOf, tableAfter, judgeFault}
 use Rattle.register.specs.Run.{Entry, entriesOf}
 use Rattle.register.specs.Register.{runOf, openRun, pastRun, lies, liesInSome, heldOf, removedOf, recordedOf, registerFault}
 use Rattle.register.specs.Image.{recordFor, recordsFor}
-use Rattle.register.proofs.Run.{next, entries-snoc, entries-before}
-use Rattle.register.proofs.Lies.{lies-old, lies-new, stands, run-lies}
+use Rattle.demand3.proofs.Run.{next, entries-snoc, entries-before}
+use Rattle.demand3.proofs.Lies.{lies-old, lies-new, stands, run-lies}
 
 module _ (p : Policy) (l : List Request) where
   -- a record of the image is marked for the rules in whose runs the entry lies

@@ -19,9 +19,9 @@ use Rattle.format.specs.Fits.{fits, place, samePlace}
 use Rattle.format.specs.Policy.{Policy}
 use Rattle.judge.specs.Verdict.{isFirst, isLast, judges}
 use Rattle.judge.specs.NewTable.{ends, gives}
 use Rattle.register.specs.Run.{Entry, entriesOf, ofPlace, run}
 use Rattle.register.specs.Register.{runOf, openRun, isIn, lies}
-use Rattle.register.proofs.Run.{next, entries-nil, entries-snoc, entries-before, continues, runNext, run-nil, run-snoc, run-before}
+use Rattle.demand3.proofs.Run.{next, entries-nil, entries-snoc, entries-before, continues, runNext, run-nil, run-snoc, run-before}
 
 module _ (p : Policy) (i : ℕ) where
   -- the run after one more grant

@@ -26,12 +26,12 @@ use Rattle.format.specs.Fits.{fits, place}
 use Rattle.format.specs.Policy.{Policy}
 use Rattle.format.specs.Table.{Record, marked, hasMark, goodMarks, goodRecord}
 use Rattle.format_laws.proofs.TableImage.{Whole}
 use Rattle.register.specs.Run.{Entry, numbered, entriesOf, ofPlace, run}
 use Rattle.register.specs.Register.{runOf, lies, liesInSome}
 use Rattle.register.specs.Image.{recordFor, recordsFor}
-use Rattle.register.proofs.Run.{run-place}
-use Rattle.register.proofs.Lies.{stands, run-lies}
-use Rattle.register.proofs.Step.{has-mark, marked-for}
+use Rattle.demand3.proofs.Run.{run-place}
+use Rattle.demand3.proofs.Lies.{stands, run-lies}
+use Rattle.demand3.proofs.Step.{has-mark, marked-for}
 
 -- a granted request has passed its check
 abbrev pub Granted : Request → Type 0
