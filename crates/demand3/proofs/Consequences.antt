@@ -20,8 +20,8 @@ use Rattle.words.specs.Lists.{keep}
 use Rattle.register.specs.Run.{entriesOf, numbered}
 use Rattle.register.specs.Register.{heldOf, registerFault, granted, registerStep}
 use Rattle.register.specs.Image.{recordsFor, registerImage}
-use Rattle.register.specs.Demand3.{Demand3, answers}
-use Rattle.register.specs.Consequences.{after, recordedSum, removedSum, Balanced, Passes, Untouched}
+use Rattle.register.specs.Demand3.{Demand3, answers, after}
+use Rattle.register.specs.Consequences.{recordedSum, removedSum, Balanced, Passes, Untouched}
 use Rattle.demand3.proofs.GoodRecords.{Granted}
 use Rattle.demand3.proofs.Step.{records-held, balance}
 use Rattle.demand3.proofs.Demand3.{demand-3, imaged, decide-step, fine-step, fresh-image, fine-start, image-passes, image-records}

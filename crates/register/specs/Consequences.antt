@@ -10,12 +10,7 @@ use Rattle.format.specs.Layout.{tableBlocks}
 use Rattle.format.specs.Policy.{policyFault}
 use Rattle.format.specs.Table.{tableFault, recordsOf, freshTable}
 use Rattle.judge.specs.Decide.{decide}
-use Rattle.register.specs.Demand3.{answers}
-
--- the state after calls one after another
-unfoldable pub after : {S C : Type 0} → (S → C → Outcome S) → S → List C → S
-after step s [] = s
-after step s (c ∷ cs) = after step (step s c .state) cs
+use Rattle.register.specs.Demand3.{answers, after}
 
 -- the first and the second number of the grants, summed
 unfoldable pub recordedSum : List Answer → ℕ

@@ -14,8 +14,7 @@ use Rattle.format.specs.Policy.{policyFault}
 use Rattle.format.specs.Table.{tableLengthFault, freshTable}
 use Rattle.format.specs.Calls.{makeTable}
 use Rattle.judge.specs.Decide.{decide}
-use Rattle.register.specs.Demand3.{answers, Kept, Demand3}
-use Rattle.register.specs.Consequences.{after}
+use Rattle.register.specs.Demand3.{answers, after, Kept, Demand3}
 use Rattle.demand3.proofs.Demand3.{demand-3}
 use Rattle.demand3.proofs.Consequences.{last-table}
 use Rattle.engine.proofs.Checked.{Blocked, good-blocked}
