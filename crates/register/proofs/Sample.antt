@@ -1,30 +1,40 @@
 -- The sample session of document 01 over the full register, computed: from no grant, with one block, the fifteen requests in bytes get the paper's
--- fifteen answers. With the judge's answers beside them, as the paper's "one fact about judge and register", it is crates/demand3/proofs/Sample.antt.
+-- fifteen answers, and the image has records of the five that are held. With the judge's answers beside them, as the paper's "one fact about judge and register",
+-- it is crates/demand3/proofs/Sample.antt.
 -- Assumes nothing.
+use Prim.Native.Nat.{ℕ}
 use mathlib.Core.Path.{_≡_, refl}
-use mathlib.Core.List.{[], flatten}
-use Rattle.words.specs.Lists.{keep, anyOf, nonEmpty, allBelow, anyBelow, tab, sumBelow, sameList}
-use Rattle.words.specs.First.{_orElse_, unless, first}
-use Rattle.words.specs.Bytes.{bit}
+use mathlib.Core.List.{List, [], _∷_, flatten}
+use lib.ListN.{getD}
+use Rattle.words.specs.Bytes.{bits}
 use Rattle.words.specs.Sums.{addWord, addWords, sums, words}
-use Rattle.format.specs.Answer.{refusing}
 use Rattle.format.specs.Layout.{capacity}
 use Rattle.format.specs.Block.{checkOf, sumBytes, sealed}
-use Rattle.format.specs.Request.{hasRole, usedLevel, blankLevel, depthOf, goodContext, goodRequest, requestFault}
 use Rattle.format.specs.Rule.{ruleAt}
-use Rattle.format.specs.Fits.{levelFits, fits, placeValue, place}
 use Rattle.format.specs.Policy.{ruleCount, permissionsAt, policyOf}
-use Rattle.judge.specs.Tally.{sameUser, does, countsFor, roleTally, timesListed, timesDone, repeats, privilegeTally, tally, reached, exclusionNumber, counted}
-use Rattle.judge.specs.Verdict.{grants, permitted, isFirst, isLast, judges, failing, verdict}
+use Rattle.format.specs.Table.{Record}
 use Rattle.judge.specs.Sample.{samplePolicy, sampleRequests, sampleAnswers}
-use Rattle.register.specs.Run.{numbered, entriesOf, afterLatest, fromEarliest, ofPlace, run}
-use Rattle.register.specs.Register.{runOf, openRun, pastRun, isIn, lies, liesInSome, heldOf, removedOf, recordedOf, registerFault, granted, registerStep}
-use Rattle.register.specs.Demand3.{answers}
+use Rattle.register.specs.Register.{registerStep}
+use Rattle.register.specs.Image.{recordFor, recordsFor}
+use Rattle.register.specs.Demand3.{answers, after}
+use Rattle.register.proofs.Examples.{opened}
+
+-- what these two compute with besides
+openedBytes : Unit {0}
+unfolding flatten addWord addWords sums words checkOf sumBytes sealed ruleAt ruleCount permissionsAt policyOf samplePolicy sampleRequests sampleAnswers
+openedBytes = tt
 
 pub fifteen : answers (registerStep (policyOf samplePolicy) (capacity 1)) [] sampleRequests ≡ sampleAnswers
-unfolding keep anyOf nonEmpty allBelow anyBelow tab sumBelow sameList flatten _orElse_ unless first bit addWord addWords sums words refusing checkOf
-    sumBytes sealed hasRole usedLevel blankLevel depthOf goodContext goodRequest requestFault ruleAt levelFits fits placeValue place ruleCount
-    permissionsAt policyOf sameUser does countsFor roleTally timesListed timesDone repeats privilegeTally tally reached exclusionNumber counted grants
-    permitted isFirst isLast judges failing verdict samplePolicy sampleRequests sampleAnswers numbered entriesOf afterLatest fromEarliest ofPlace run
-    runOf openRun pastRun isIn lies liesInSome heldOf removedOf recordedOf registerFault granted registerStep answers
+unfolding opened openedBytes answers
 fifteen = refl
+
+-- the record of the paper's request n, from 1
+abbrev kept : ℕ → ℕ → Record
+kept n marks = record { request = getD ([] ∷ sampleRequests) n []; marks = marks }
+
+-- rule 1 counts requests 4 and 10, rule 2 counts 12, 14 and 15
+pub five-held :
+    recordsFor (policyOf samplePolicy) (after (registerStep (policyOf samplePolicy) (capacity 1)) [] sampleRequests)
+    ≡ kept 4 1 ∷ kept 10 1 ∷ kept 12 2 ∷ kept 14 2 ∷ kept 15 2 ∷ []
+unfolding opened openedBytes bits recordFor recordsFor after
+five-held = refl
