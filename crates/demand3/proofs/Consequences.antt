@@ -13,7 +13,9 @@ use Rattle.word_laws.proofs.First.{none-second}
 use Rattle.format.specs.Request.{Request, requestFault}
 use Rattle.format.specs.Policy.{Policy, policyFault, policyOf, stamp}
 use Rattle.format.specs.Block.{blocks}
-use Rattle.format.specs.Table.{Record, tableFault, tableImage, recordsOf, freshTable}
+use Rattle.format.specs.Calls.{makeTable}
+use Rattle.words.specs.First.{_orElse_}
+use Rattle.format.specs.Table.{tableLengthFault, tableFault, tableImage, recordsOf, freshTable}
 use Rattle.judge.specs.NewTable.{judge, grantOf, judgeFault}
 use Rattle.judge.specs.Decide.{decide, decideFault}
 use Rattle.words.specs.Lists.{keep}
@@ -21,31 +23,35 @@ use Rattle.register.specs.Run.{entriesOf, numbered}
 use Rattle.register.specs.Register.{heldOf, registerFault, granted, registerStep}
 use Rattle.register.specs.Image.{recordsFor, registerImage}
 use Rattle.register.specs.Demand3.{Demand3, answers, after}
-use Rattle.register.specs.Consequences.{recordedSum, removedSum, Balanced, Passes, Untouched}
+use Rattle.register.specs.Consequences.{recordedSum, removedSum, lastHeldFrom, lastHeld, Balanced, Passes, Untouched}
 use Rattle.demand3.proofs.GoodRecords.{Granted}
 use Rattle.demand3.proofs.Step.{records-held, balance}
 use Rattle.demand3.proofs.Demand3.{demand-3, imaged, decide-step, fine-step, fresh-image, fine-start, image-passes, image-records}
 
-apart : (recorded removed held : ℕ) (r : Refusal) → grant recorded removed held ≡ refuse r → ⊥
-apart recorded removed held r e = let z : _≡_ {A = ℕ} 0 1 = cc in omega arith
+-- an outcome that is refused where a check applies, and answers otherwise with no refusal, leaves the state as it was
+refused-state :
+    {S : Type 0} (o : Option Refusal) (s : S) (left : Outcome S) (r : Refusal)
+    → (o ≡ none → left .answer ≡ refuse r → ⊥) → refusing o s left .answer ≡ refuse r → refusing o s left .state ≡ s
+unfolding refusing
+refused-state none s left r never h = absurd (never refl h)
+refused-state (some x) s left r never h = refl
 
--- a judgement that is not refused is a grant, and a grant is no refusal
+-- a judgement that no check refuses is a grant, and a table that is made is accepted
 pub untouched : Untouched
-unfolding Untouched decide refusing decideFault judge grantOf
-untouched policy table request r = go (decideFault policy table request) refl
+unfolding decide decideFault judge grantOf makeTable refusing
+untouched =
+    record {
+      deciding = λ policy table request r.
+          refused-state (decideFault policy table request) table _ r
+          (λ e h. absurd (let g = rw (clear policy table request e) at h in let z : _≡_ {A = ℕ} 0 1 = cc g in omega arith));
+      making = λ policy buffer r.
+          refused-state (policyFault policy orElse tableLengthFault buffer) buffer _ r (λ e h. let z : _≡_ {A = ℕ} 0 1 = cc h in omega arith);
+    }
   where
-    judged : Outcome (List Record)
-    judged = judge (policyOf policy) (capacity (blocks table)) (recordsOf table) request
-
-    left : Outcome (List ℕ)
-    left = record { answer = judged .answer; state = tableImage (stamp policy) (blocks table) (judged .state) }
-
-    go : (o : Option Refusal) → decideFault policy table request ≡ o → refusing o table left .answer ≡ refuse r → refusing o table left .state ≡ table
-    go (some x) e h = refl
-    go none e h = absurd (apart _ _ _ r (rw clear at h))
-      where
-        clear : judgeFault (policyOf policy) (capacity (blocks table)) (recordsOf table) request ≡ none
-        clear = none-second (requestFault request) _ (none-second (tableFault policy table) _ (none-second (policyFault policy) _ e))
+    clear :
+        (policy table request : List ℕ) → decideFault policy table request ≡ none
+        → judgeFault (policyOf policy) (capacity (blocks table)) (recordsOf table) request ≡ none
+    clear policy table request e = none-second (requestFault request) _ (none-second (tableFault policy table) _ (none-second (policyFault policy) _ e))
 
 -- ---- the table after all calls
 
@@ -98,6 +104,25 @@ module _ (policy : List ℕ) (accepted : policyFault policy ≡ none) (b : ℕ) 
       go (some r) rest = rest l
       go none rest = omega (arith, balance p l q, rest (l ++ (q ∷ [])))
 
+  -- the held of the last grant is what the register then holds
+  held-from :
+      (requests : List (List ℕ)) (l : List Request)
+      → lastHeldFrom (heldOf (policyOf policy) l) (answers step l requests) ≡ heldOf (policyOf policy) (after step l requests)
+  unfolding after answers lastHeldFrom registerStep granted refusing
+  held-from [] l = refl
+  held-from (q ∷ qs) l = go (registerFault (policyOf policy) (capacity b) l q) (λ l′. held-from qs l′)
+    where
+      p : Policy
+      p = policyOf policy
+
+      go :
+          (o : Option Refusal)
+          → ((l′ : List Request) → lastHeldFrom (heldOf p l′) (answers step l′ qs) ≡ heldOf p (after step l′ qs))
+          → lastHeldFrom (heldOf p l) (refusing o l (granted p l q) .answer ∷ answers step (refusing o l (granted p l q) .state) qs)
+          ≡ heldOf p (after step (refusing o l (granted p l q) .state) qs)
+      go (some r) rest = rest l
+      go none rest = rest (l ++ (q ∷ []))
+
   nothing-held : heldOf (policyOf policy) [] ≡ 0
   unfolding heldOf entriesOf numbered keep
   nothing-held = refl
@@ -109,7 +134,22 @@ passes policy accepted b some-block few-blocks requests =
     (image-passes policy accepted b some-block few-blocks _ (fine-last policy accepted b some-block few-blocks requests))
 
 pub balanced : Balanced
-unfolding Balanced Demand3
+unfolding Balanced Demand3 lastHeld
 balanced policy accepted b some-block few-blocks requests =
-    rw (demand-3 policy accepted b some-block few-blocks requests .answers-same, last-table policy accepted b some-block few-blocks requests, image-records policy accepted b some-block few-blocks _ (fine-last policy accepted b some-block few-blocks requests), records-held (policyOf policy) _)
-    (omega (arith, balanced-from policy accepted b some-block few-blocks requests [], nothing-held policy accepted b some-block few-blocks))
+    record {
+      by-answers = rw same (omega (arith, balanced-from policy accepted b some-block few-blocks requests [], none-yet, held));
+      by-table =
+          rw (same, last-table policy accepted b some-block few-blocks requests, image-records policy accepted b some-block few-blocks _ (fine-last policy accepted b some-block few-blocks requests), records-held (policyOf policy) _) held;
+    }
+  where
+    step : List Request → List ℕ → Outcome (List Request)
+    step = registerStep (policyOf policy) (capacity b)
+
+    same : answers (decide policy) (freshTable policy b) requests ≡ answers step [] requests
+    same = demand-3 policy accepted b some-block few-blocks requests .answers-same
+
+    none-yet : heldOf (policyOf policy) [] ≡ 0
+    none-yet = nothing-held policy accepted b some-block few-blocks
+
+    held : lastHeldFrom 0 (answers step [] requests) ≡ heldOf (policyOf policy) (after step [] requests)
+    held = rw none-yet at (held-from policy accepted b some-block few-blocks requests [])

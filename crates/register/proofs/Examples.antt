@@ -28,7 +28,7 @@ use Rattle.register.specs.Register.{registerStep}
 use Rattle.register.specs.Image.{recordFor, recordsFor, registerImage}
 use Rattle.register.specs.Reached.{NobodyIn, standing, withStep, Nobody}
 use Rattle.register.specs.Demand3.{answers, states, after, AtGrant, AtEvery, NobodyEver}
-use Rattle.register.specs.Consequences.{recordedSum, removedSum}
+use Rattle.register.specs.Consequences.{recordedSum, removedSum, lastHeldFrom, lastHeld}
 
 -- what these examples compute with
 unfoldable pub opened : Unit {0}
@@ -281,3 +281,12 @@ pub nobody-at-every-point :
     × (Nobody p (standing p (by 7 1 5 ∷ [])) × Unit {0} × Nobody p (standing p (by 7 1 5 ∷ []))))
 unfolding opened AtGrant AtEvery NobodyEver
 nobody-at-every-point = refl
+
+-- ---- what the answers add up to
+
+-- of the sample session's answers: seven recorded, two removed, the last grant's five held; a refusal at the end and an acceptance change nothing
+pub added-up :
+    (recordedSum sampleAnswers ≡ 7) × (removedSum sampleAnswers ≡ 2)
+    × (map lastHeld ([] ∷ sampleAnswers ∷ (grant 1 0 3 ∷ refuse (refusal 33 1 1) ∷ accept 15 ∷ []) ∷ []) ≡ 0 ∷ 5 ∷ 3 ∷ [])
+unfolding sampleAnswers recordedSum removedSum lastHeldFrom lastHeld
+added-up = (refl, refl, refl)

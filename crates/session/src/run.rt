@@ -13,15 +13,14 @@ use engine::deciding::decide;
 use engine::reply::Reply;
 
 // Where a request of n bytes ends that begins at a byte of these many.
-fn end_of(bytes: usize, at: usize, n: u32) -> usize
+fn end_of(bytes: usize, at: usize, n: usize) -> usize
     requires { ⌜ at ≤ bytes ⌝ }
     ensures { λ r. ⌜ r ≡ at + min n (bytes - at) ⌝ }
 {
-    let length = n as usize;
-    if bytes - at < length {
+    if bytes - at < n {
         return bytes;
     }
-    at + length
+    at + n
 }
 
 // Writes four numbers.
@@ -52,7 +51,7 @@ fn decide_each(
     policy: &[u8],
     table: &mut [u8],
     requests: &[u8],
-    lengths: &[u32],
+    lengths: &[usize],
     answers: &mut [u32],
 )
     requires { ⌜ length (now answers) ≡ 4 * length (now lengths) ⌝ }
@@ -73,7 +72,7 @@ pub fn run(
     policy: &[u8],
     table: &mut [u8],
     requests: &[u8],
-    lengths: &[u32],
+    lengths: &[usize],
     answers: &mut [u32],
 ) -> Reply
     requires { ⌜ length (now answers) ≡ 4 * length (now lengths) ⌝ }
