@@ -26,7 +26,7 @@ use Rattle.register.specs.Demand3.{Demand3, answers, after}
 use Rattle.register.specs.Consequences.{recordedSum, removedSum, lastHeldFrom, lastHeld, Balanced, Passes, Untouched}
 use Rattle.demand3.proofs.GoodRecords.{Granted}
 use Rattle.demand3.proofs.Step.{records-held, balance}
-use Rattle.demand3.proofs.Demand3.{demand-3, imaged, decide-step, fine-step, fresh-image, fine-start, image-passes, image-records}
+use Rattle.demand3.proofs.Demand3.{demand-3, last-table, fine-last, image-passes, image-records}
 
 -- an outcome that is refused where a check applies, and answers otherwise with no refusal, leaves the state as it was
 refused-state :
@@ -53,79 +53,32 @@ untouched =
         → judgeFault (policyOf policy) (capacity (blocks table)) (recordsOf table) request ≡ none
     clear policy table request e = none-second (requestFault request) _ (none-second (tableFault policy table) _ (none-second (policyFault policy) _ e))
 
--- ---- the table after all calls
+-- ---- what the answers add up to
 
-module _ (policy : List ℕ) (accepted : policyFault policy ≡ none) (b : ℕ) (some-block : 1 ≤ b) (few-blocks : b ≤ tableBlocks) where
-  abbrev step : List Request → List ℕ → Outcome (List Request)
-  step = registerStep (policyOf policy) (capacity b)
+-- the register's numbers balance over all calls, and the held of the last grant is what the register then holds
+balanced-from :
+    (p : Policy) (room : ℕ) (requests : List (List ℕ)) (l : List Request)
+    → (heldOf p l + recordedSum (answers (registerStep p room) l requests)
+    ≡ removedSum (answers (registerStep p room) l requests) + heldOf p (after (registerStep p room) l requests))
+    × (lastHeldFrom (heldOf p l) (answers (registerStep p room) l requests) ≡ heldOf p (after (registerStep p room) l requests))
+unfolding after answers recordedSum removedSum lastHeldFrom registerStep granted refusing
+balanced-from p room [] l = (omega arith, refl)
+balanced-from p room (q ∷ qs) l = go (registerFault p room l q) (balanced-from p room qs)
+  where
+    Balances : ℕ → List Answer → ℕ → Type 0
+    Balances before told now = (before + recordedSum told ≡ removedSum told + now) × (lastHeldFrom before told ≡ now)
 
-  abbrev Fine : List Request → Type 0
-  Fine l = Every Granted l × (length (recordsFor (policyOf policy) l) ≤ capacity b)
+    go :
+        (o : Option Refusal)
+        → ((l′ : List Request) → Balances (heldOf p l′) (answers (registerStep p room) l′ qs) (heldOf p (after (registerStep p room) l′ qs)))
+        → Balances (heldOf p l) (refusing o l (granted p l q) .answer ∷ answers (registerStep p room) (refusing o l (granted p l q) .state) qs)
+        (heldOf p (after (registerStep p room) (refusing o l (granted p l q) .state) qs))
+    go (some r) rest = rest l
+    go none rest = (omega (arith, balance p l q, rest (l ++ (q ∷ [])) .0), rest (l ++ (q ∷ [])) .1)
 
-  fine-after : (requests : List (List ℕ)) (l : List Request) → Fine l → Fine (after step l requests)
-  unfolding after
-  fine-after [] l f = f
-  fine-after (q ∷ qs) l f = fine-after qs (step l q .state) (fine-step policy accepted b some-block few-blocks l f q)
-
-  after-same : (requests : List (List ℕ)) (l : List Request) → Fine l → after (decide policy) (registerImage policy b l) requests ≡ registerImage policy b (after step l requests)
-  unfolding after imaged
-  after-same [] l f = refl
-  after-same (q ∷ qs) l f =
-      rw (decide-step policy accepted b some-block few-blocks l f q)
-      (after-same qs (step l q .state) (fine-step policy accepted b some-block few-blocks l f q))
-
-  -- the table that the calls leave is the image of the register that they leave
-  pub last-table : (requests : List (List ℕ)) → after (decide policy) (freshTable policy b) requests ≡ registerImage policy b (after step [] requests)
-  last-table requests =
-      rw (← fresh-image policy accepted b some-block few-blocks)
-      (after-same requests [] (fine-start policy accepted b some-block few-blocks))
-
-  fine-last : (requests : List (List ℕ)) → Fine (after step [] requests)
-  fine-last requests = fine-after requests [] (fine-start policy accepted b some-block few-blocks)
-
-  -- the register's numbers balance over all calls
-  balanced-from :
-      (requests : List (List ℕ)) (l : List Request)
-      → heldOf (policyOf policy) l + recordedSum (answers step l requests)
-      ≡ removedSum (answers step l requests) + heldOf (policyOf policy) (after step l requests)
-  unfolding after answers recordedSum removedSum registerStep granted refusing
-  balanced-from [] l = omega arith
-  balanced-from (q ∷ qs) l = go (registerFault (policyOf policy) (capacity b) l q) (λ l′. balanced-from qs l′)
-    where
-      p : Policy
-      p = policyOf policy
-
-      go :
-          (o : Option Refusal)
-          → ((l′ : List Request) → heldOf p l′ + recordedSum (answers step l′ qs) ≡ removedSum (answers step l′ qs) + heldOf p (after step l′ qs))
-          → heldOf p l + recordedSum (refusing o l (granted p l q) .answer ∷ answers step (refusing o l (granted p l q) .state) qs)
-          ≡ removedSum (refusing o l (granted p l q) .answer ∷ answers step (refusing o l (granted p l q) .state) qs)
-          + heldOf p (after step (refusing o l (granted p l q) .state) qs)
-      go (some r) rest = rest l
-      go none rest = omega (arith, balance p l q, rest (l ++ (q ∷ [])))
-
-  -- the held of the last grant is what the register then holds
-  held-from :
-      (requests : List (List ℕ)) (l : List Request)
-      → lastHeldFrom (heldOf (policyOf policy) l) (answers step l requests) ≡ heldOf (policyOf policy) (after step l requests)
-  unfolding after answers lastHeldFrom registerStep granted refusing
-  held-from [] l = refl
-  held-from (q ∷ qs) l = go (registerFault (policyOf policy) (capacity b) l q) (λ l′. held-from qs l′)
-    where
-      p : Policy
-      p = policyOf policy
-
-      go :
-          (o : Option Refusal)
-          → ((l′ : List Request) → lastHeldFrom (heldOf p l′) (answers step l′ qs) ≡ heldOf p (after step l′ qs))
-          → lastHeldFrom (heldOf p l) (refusing o l (granted p l q) .answer ∷ answers step (refusing o l (granted p l q) .state) qs)
-          ≡ heldOf p (after step (refusing o l (granted p l q) .state) qs)
-      go (some r) rest = rest l
-      go none rest = rest (l ++ (q ∷ []))
-
-  nothing-held : heldOf (policyOf policy) [] ≡ 0
-  unfolding heldOf entriesOf numbered keep
-  nothing-held = refl
+nothing-held : (p : Policy) → heldOf p [] ≡ 0
+unfolding heldOf entriesOf numbered keep
+nothing-held p = refl
 
 pub passes : Passes
 unfolding Passes
@@ -137,9 +90,9 @@ pub balanced : Balanced
 unfolding Balanced Demand3 lastHeld
 balanced policy accepted b some-block few-blocks requests =
     record {
-      by-answers = rw same (omega (arith, balanced-from policy accepted b some-block few-blocks requests [], none-yet, held));
+      by-answers = rw same (omega (arith, sums .0, sums .1));
       by-table =
-          rw (same, last-table policy accepted b some-block few-blocks requests, image-records policy accepted b some-block few-blocks _ (fine-last policy accepted b some-block few-blocks requests), records-held (policyOf policy) _) held;
+          rw (same, last-table policy accepted b some-block few-blocks requests, image-records policy accepted b some-block few-blocks _ (fine-last policy accepted b some-block few-blocks requests), records-held (policyOf policy) _) (sums .1);
     }
   where
     step : List Request → List ℕ → Outcome (List Request)
@@ -148,8 +101,7 @@ balanced policy accepted b some-block few-blocks requests =
     same : answers (decide policy) (freshTable policy b) requests ≡ answers step [] requests
     same = demand-3 policy accepted b some-block few-blocks requests .answers-same
 
-    none-yet : heldOf (policyOf policy) [] ≡ 0
-    none-yet = nothing-held policy accepted b some-block few-blocks
-
-    held : lastHeldFrom 0 (answers step [] requests) ≡ heldOf (policyOf policy) (after step [] requests)
-    held = rw none-yet at (held-from policy accepted b some-block few-blocks requests [])
+    sums :
+        (0 + recordedSum (answers step [] requests) ≡ removedSum (answers step [] requests) + heldOf (policyOf policy) (after step [] requests))
+        × (lastHeldFrom 0 (answers step [] requests) ≡ heldOf (policyOf policy) (after step [] requests))
+    sums = rw (nothing-held (policyOf policy)) at (balanced-from (policyOf policy) (capacity b) requests [])

@@ -15,7 +15,7 @@ use Rattle.words.specs.First.{_orElse_, unless, first}
 use Rattle.word_laws.proofs.Keep.{keep-append, map-append}
 use Rattle.word_laws.proofs.Same.{same-eq, same-refl}
 use Rattle.word_laws.proofs.First.{none-first, none-second, passes-unless, none-at}
-use Rattle.format.specs.Answer.{Refusal, refusal, Outcome, refusing}
+use Rattle.format.specs.Answer.{Refusal, refusal, refusing}
 use Rattle.format.specs.Request.{Request, user, requestFault}
 use Rattle.format.specs.Rule.{Rule, Exclusion, isSet}
 use Rattle.format.specs.Fits.{fits, place}
@@ -25,7 +25,8 @@ use Rattle.judge.specs.Verdict.{permitted, isFirst, isLast, judges, failing, ve
 use Rattle.register.specs.Run.{Entry, entriesOf, ofPlace, run}
 use Rattle.register.specs.Register.{runOf, openRun, pastRun, registerFault, granted, registerStep}
 use Rattle.register.specs.Reached.{NobodyIn, standing, withStep, Nobody}
-use Rattle.register.specs.Demand3.{AtGrant, AtEvery, NobodyEver}
+use Rattle.register.specs.Demand3.{AtGrant, NobodyEver}
+use Rattle.demand3.proofs.Calls.{at-every}
 use Rattle.demand3.proofs.Run.{next, entries-nil, run-nil, runNext, continues}
 use Rattle.demand3.proofs.Lies.{runOf-snoc}
 
@@ -144,16 +145,6 @@ module _ (p : Policy) (l : List Request) (q : Request) where
 at-start : (p : Policy) → Positive p → Nobody p (standing p [])
 unfolding Nobody NobodyIn standing runOf keep
 at-start p pos i h e k key u = rw (entries-nil, run-nil) (none-reached (p .rule i .exclusion e) (pos i h e k))
-
--- a claim that holds at the start, and that each call keeps, holds at every point
-at-every :
-    {S C : Type 0} (step : S → C → Outcome S) (AtPoint : S → Type 0) (AtStep : S → C → Type 0)
-    → ((s : S) (c : C) → AtPoint s → AtGrant (step s c .answer) (AtStep s c) × AtPoint (step s c .state))
-    → (cs : List C) (s : S) → AtPoint s → AtEvery step AtPoint AtStep s cs
-unfolding AtEvery
-at-every step AtPoint AtStep one [] s now = now
-at-every step AtPoint AtStep one (c ∷ cs) s now =
-    let kept = one s c now in (now, kept .0, at-every step AtPoint AtStep one cs (step s c .state) (kept .1))
 
 -- one request
 keeps :

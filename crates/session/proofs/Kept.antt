@@ -15,8 +15,8 @@ use Rattle.format.specs.Table.{tableLengthFault, freshTable}
 use Rattle.format.specs.Calls.{makeTable}
 use Rattle.judge.specs.Decide.{decide}
 use Rattle.register.specs.Demand3.{answers, after, Kept, Demand3}
-use Rattle.demand3.proofs.Demand3.{demand-3}
-use Rattle.demand3.proofs.Consequences.{last-table, untouched}
+use Rattle.demand3.proofs.Demand3.{demand-3, last-table}
+use Rattle.demand3.proofs.Consequences.{untouched}
 use Rattle.engine.proofs.Checked.{Blocked, good-blocked}
 use Rattle.session.specs.Session.{written, AsRegister, Ran}
 
