@@ -1,30 +1,26 @@
--- What follows from demand 3: specs/Consequences.antt has the claims.
+-- What follows from demand 3: crates/register/specs/Consequences.antt has the claims.
 -- Assumes nothing.
-use Prim.Native.Nat.{ℕ, _+_, _≤_}
-use mathlib.Core.Path.{_≡_, refl, sym, ap, _∙_}
+use Prim.Native.Nat.{ℕ, _+_}
+use mathlib.Core.Path.{_≡_, refl}
 use mathlib.Core.List.{List, [], _∷_, _++_}
 use mathlib.Core.Option.{Option, none, some}
 use native.Mathlib.Omega.{arith}
-use lib.ListN.{length}
-use Rattle.format.specs.Answer.{Answer, accept, grant, refuse, Refusal, Outcome, refusing}
-use Rattle.format.specs.Layout.{capacity, tableBlocks}
-use Rattle.word_laws.proofs.Every.{Every}
+use Rattle.format.specs.Answer.{Answer, refuse, Refusal, Outcome, refusing}
+use Rattle.format.specs.Layout.{capacity}
 use Rattle.word_laws.proofs.First.{none-second}
 use Rattle.format.specs.Request.{Request, requestFault}
-use Rattle.format.specs.Policy.{Policy, policyFault, policyOf, stamp}
+use Rattle.format.specs.Policy.{Policy, policyFault, policyOf}
 use Rattle.format.specs.Block.{blocks}
 use Rattle.format.specs.Calls.{makeTable}
 use Rattle.words.specs.First.{_orElse_}
-use Rattle.format.specs.Table.{tableLengthFault, tableFault, tableImage, recordsOf, freshTable}
+use Rattle.format.specs.Table.{tableLengthFault, tableFault, recordsOf, freshTable}
 use Rattle.judge.specs.NewTable.{judge, grantOf, judgeFault}
 use Rattle.judge.specs.Decide.{decide, decideFault}
 use Rattle.words.specs.Lists.{keep}
 use Rattle.register.specs.Run.{entriesOf, numbered}
 use Rattle.register.specs.Register.{heldOf, registerFault, granted, registerStep}
-use Rattle.register.specs.Image.{recordsFor, registerImage}
 use Rattle.register.specs.Demand3.{Demand3, answers, after}
 use Rattle.register.specs.Consequences.{recordedSum, removedSum, lastHeldFrom, lastHeld, Balanced, Passes, Untouched}
-use Rattle.demand3.proofs.GoodRecords.{Granted}
 use Rattle.demand3.proofs.Step.{records-held, balance}
 use Rattle.demand3.proofs.Demand3.{demand-3, last-table, fine-last, image-passes, image-records}
 

@@ -1,34 +1,32 @@
--- Demand 3, proved: specs/Demand3.antt says in plain words what it claims.
+-- Demand 3, proved: crates/register/specs/Demand3.antt says in plain words what it claims.
 -- The chain: on one request judge and register agree (Step.antt) and nobody reaches m (Nobody.antt), for every list of requests; the image of good
 -- records passes the table's check and reads back (format's TableImage.antt), and the register's records are good (GoodRecords.antt); so `decide` on
--- the image of a list leaves the image of the next list (`decide-step`), and the claim follows by induction over the requests.
+-- the image of a list leaves the image of the next list (`decide-step`), and the claim follows by the laws of calls one after another (Calls.antt).
 -- Assumes nothing.
-use Prim.Native.Nat.{ℕ, _≤_, _<_}
-use mathlib.Core.Path.{_≡_, refl, sym, ap, ap₂, _∙_}
-use mathlib.Core.Bool.{Bool, true}
-use mathlib.Core.List.{List, [], _∷_, _++_, map}
+use Prim.Native.Nat.{ℕ, _≤_}
+use mathlib.Core.Path.{_≡_, refl, sym, _∙_}
+use mathlib.Core.List.{List, [], _∷_, _++_}
 use mathlib.Core.Option.{Option, none, some}
 use native.Mathlib.Omega.{arith}
 use borrow.Author.Tests.{leb-true}
-use lib.ListN.{length, length-map}
+use lib.ListN.{length}
 use Rattle.words.specs.Lists.{keep}
-use Rattle.words.specs.First.{_orElse_}
 use Rattle.word_laws.proofs.Every.{Every, empty, more as also, every-append}
 use Rattle.word_laws.proofs.First.{none-first, none-second, passes-unless, none-orElse}
-use Rattle.format.specs.Answer.{Answer, grant, Refusal, Outcome, refusing}
+use Rattle.format.specs.Answer.{Refusal, Outcome, refusing}
 use Rattle.format.specs.Layout.{capacity, tableBlocks}
 use Rattle.format.specs.Block.{blocks}
 use Rattle.format.specs.Request.{Request, requestFault}
-use Rattle.format.specs.Policy.{Policy, policyFault, policyOf, ruleCount, stamp}
+use Rattle.format.specs.Policy.{Policy, policyFault, policyOf, stamp}
 use Rattle.format.specs.Table.{Record, tableFault, tableImage, recordsOf, freshTable}
 use Rattle.format_laws.proofs.TableImage.{image-blocks, reads-back, passes}
 use Rattle.format_laws.proofs.AcceptedPolicy.{rules-most, m-two}
-use Rattle.judge.specs.NewTable.{judgeFault, judge, grantOf, openIn, tableAfter}
+use Rattle.judge.specs.NewTable.{judgeFault, judge}
 use Rattle.judge.specs.Decide.{decideFault, decide}
 use Rattle.register.specs.Run.{entriesOf, numbered}
-use Rattle.register.specs.Register.{heldOf, liesInSome, registerFault, granted, registerStep}
-use Rattle.register.specs.Image.{recordFor, recordsFor, registerImage}
-use Rattle.register.specs.Demand3.{answers, states, after, Kept, Demand3}
+use Rattle.register.specs.Register.{heldOf, registerFault, granted, registerStep}
+use Rattle.register.specs.Image.{recordsFor, registerImage}
+use Rattle.register.specs.Demand3.{after, Kept, Demand3}
 use Rattle.demand3.proofs.Calls.{answers-same, states-same, after-same, fine-after}
 use Rattle.demand3.proofs.Step.{records-held, fault-same, grant-same, table-same}
 use Rattle.demand3.proofs.GoodRecords.{Granted, records-good, records-whole}

@@ -1,33 +1,31 @@
 -- Nobody reaches the forbidden number: a grant is given only where step 3 finds everyone below m, and a run grows by granted requests alone.
 -- Assumes nothing.
-use Prim.Native.Nat.{ℕ, zero, suc, _+_, _<_, _≤_, min}
-use mathlib.Core.Path.{_≡_, refl, sym, ap, _∙_, subst}
-use mathlib.Core.Bool.{Bool, true, false, cond, not, _&&_, _||_}
+use Prim.Native.Nat.{ℕ, zero, suc, _<_, min}
+use mathlib.Core.Path.{_≡_, refl, subst}
+use mathlib.Core.Bool.{Bool, true, false, cond, _&&_}
 use mathlib.Core.List.{List, [], _∷_, _++_, map, append-nil}
 use mathlib.Core.Option.{Option, none, some}
 use native.Mathlib.Nat.{min-zero}
 use native.Mathlib.Omega.{arith}
 use borrow.Author.Tests.{eqb-true, lt-leb, not-true}
-use lib.ListN.{length}
-use lib.Dec.{eqb, leb}
-use Rattle.words.specs.Lists.{keep, anyOf, nonEmpty, sumBelow, sameList}
-use Rattle.words.specs.First.{_orElse_, unless, first}
+use lib.Dec.{eqb}
+use Rattle.words.specs.Lists.{keep, anyOf, sumBelow, sameList}
 use Rattle.word_laws.proofs.Keep.{keep-append, map-append}
 use Rattle.word_laws.proofs.Same.{same-eq, same-refl}
 use Rattle.word_laws.proofs.First.{none-first, none-second, passes-unless, none-at}
-use Rattle.format.specs.Answer.{Refusal, refusal, refusing}
+use Rattle.format.specs.Answer.{Refusal, refusing}
 use Rattle.format.specs.Request.{Request, user, requestFault}
-use Rattle.format.specs.Rule.{Rule, Exclusion, isSet}
+use Rattle.format.specs.Rule.{Rule, Exclusion}
 use Rattle.format.specs.Fits.{fits, place}
 use Rattle.format.specs.Policy.{Policy}
-use Rattle.judge.specs.Tally.{sameUser, roleTally, timesListed, timesDone, repeats, privilegeTally, tally, reached, exclusionNumber, counted}
-use Rattle.judge.specs.Verdict.{permitted, isFirst, isLast, judges, failing, verdict}
-use Rattle.register.specs.Run.{Entry, entriesOf, ofPlace, run}
+use Rattle.judge.specs.Tally.{sameUser, roleTally, timesListed, timesDone, repeats, privilegeTally, tally, reached, counted}
+use Rattle.judge.specs.Verdict.{isLast, judges, failing, verdict}
+use Rattle.register.specs.Run.{Entry, ofPlace}
 use Rattle.register.specs.Register.{runOf, openRun, pastRun, registerFault, granted, registerStep}
 use Rattle.register.specs.Reached.{NobodyIn, standing, withStep, Nobody}
 use Rattle.register.specs.Demand3.{AtGrant, NobodyEver}
 use Rattle.demand3.proofs.Calls.{at-every}
-use Rattle.demand3.proofs.Run.{next, entries-nil, run-nil, runNext, continues}
+use Rattle.demand3.proofs.Run.{next, entries-nil, run-nil, continues}
 use Rattle.demand3.proofs.Lies.{runOf-snoc}
 
 -- ---- no requests, no count

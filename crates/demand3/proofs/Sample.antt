@@ -2,7 +2,6 @@
 -- fifteen requests, from a fresh table of one block, `decide` gives the fifteen answers, and so does the full register. The policy's check and the
 -- register's answers are computed; the judge's are the register's by demand 3.
 -- Assumes nothing.
-use Prim.Native.Nat.{ℕ}
 use mathlib.Core.Path.{_≡_, refl, _∙_}
 use mathlib.Core.List.{[], flatten}
 use mathlib.Core.Option.{none}

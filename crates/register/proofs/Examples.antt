@@ -1,23 +1,23 @@
 -- Worked examples of the full register: the runs, the numbers of a grant, the image, and of demand 3: who has reached the forbidden number, and when
 -- that is asked.
 -- Assumes nothing.
-use Prim.Native.Nat.{ℕ, zero, suc, _<_}
-use mathlib.Core.Path.{_≡_, refl, sym, _∙_}
+use Prim.Native.Nat.{ℕ, zero, suc}
+use mathlib.Core.Path.{_≡_, refl, sym}
 use mathlib.Core.Bool.{Bool, true, false, cond, false≢true}
 use mathlib.Core.List.{List, [], _∷_, _++_, map}
 use native.Mathlib.Omega.{arith}
 use borrow.Author.Tests.{eqb-true}
-use lib.ListN.{length, getD, replicate}
+use lib.ListN.{length, getD}
 use lib.Dec.{eqb}
 use Rattle.words.specs.Lists.{keep, anyOf, nonEmpty, allBelow, anyBelow, sumBelow, tab, sameList}
 use Rattle.words.specs.First.{_orElse_, unless, first}
 use Rattle.words.specs.Bytes.{bytes2, bytes4, zeros, bit, bits}
-use Rattle.format.specs.Answer.{Answer, accept, grant, refuse, Refusal, refusal, Outcome, refusing}
+use Rattle.format.specs.Answer.{accept, grant, refuse, refusal, Outcome, refusing}
 use Rattle.format.specs.Request.{Request, hasRole, usedLevel, blankLevel, depthOf, goodContext, goodRequest, requestFault}
-use Rattle.format.specs.Rule.{Rule, Level, Exclusion, Privilege, Step}
+use Rattle.format.specs.Rule.{Rule, Exclusion, Step}
 use Rattle.format.specs.Fits.{levelFits, fits, placeValue, place}
 use Rattle.format.specs.Policy.{Policy, stamp}
-use Rattle.format.specs.Table.{Record, tableImage}
+use Rattle.format.specs.Table.{tableImage}
 use Rattle.judge.specs.Tally.{sameUser, does, countsFor, roleTally, timesListed, timesDone, repeats, privilegeTally, tally, reached, exclusionNumber}
 use Rattle.judge.specs.Tally.{counted}
 use Rattle.judge.specs.Verdict.{grants, permitted, isFirst, isLast, judges, failing, verdict}

@@ -4,7 +4,7 @@
 -- Assumes nothing.
 use Prim.Native.Nat.{ℕ}
 use mathlib.Core.Path.{_≡_, refl}
-use mathlib.Core.List.{List, [], _∷_, flatten}
+use mathlib.Core.List.{[], _∷_, flatten}
 use lib.ListN.{getD}
 use Rattle.words.specs.Bytes.{bits}
 use Rattle.words.specs.Sums.{addWord, addWords, sums, words}

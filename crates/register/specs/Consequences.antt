@@ -5,7 +5,7 @@ use mathlib.Core.Path.{_≡_}
 use mathlib.Core.List.{List, [], _∷_}
 use mathlib.Core.Option.{none}
 use lib.ListN.{length}
-use Rattle.format.specs.Answer.{Answer, accept, grant, refuse, Refusal, Outcome}
+use Rattle.format.specs.Answer.{Answer, accept, grant, refuse, Refusal}
 use Rattle.format.specs.Layout.{tableBlocks}
 use Rattle.format.specs.Policy.{policyFault}
 use Rattle.format.specs.Table.{tableFault, recordsOf, freshTable}

@@ -7,7 +7,7 @@ use mathlib.Core.Option.{Option, none, some}
 use native.Mathlib.Omega.{arith}
 use Rattle.words.specs.First.{_orElse_}
 use Rattle.word_laws.proofs.First.{none-first, none-second, passes-unless}
-use Rattle.format.specs.Answer.{Answer, accept, refuse, Refusal, Outcome, refusing}
+use Rattle.format.specs.Answer.{Answer, accept, Refusal, Outcome, refusing}
 use Rattle.format.specs.Layout.{capacity}
 use Rattle.format.specs.Block.{blocks}
 use Rattle.format.specs.Policy.{policyFault}
