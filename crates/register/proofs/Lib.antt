@@ -1,9 +1,2 @@
-pub mod Run
-pub mod Lies
-pub mod Step
-pub mod Nobody
-pub mod GoodRecords
-pub mod Demand3
-pub mod Consequences
-pub mod Adequacy
+pub mod Examples
 pub mod Sample

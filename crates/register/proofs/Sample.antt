@@ -1,36 +1,40 @@
--- The sample session of document 01, "proved as one fact about judge and register", in bytes: the policy passes its check with two rules, and over the
--- fifteen requests, from a fresh table of one block, `decide` gives the fifteen answers, and so does the full register. Each side is computed.
+-- The sample session of document 01 over the full register, computed: from no grant, with one block, the fifteen requests in bytes get the paper's
+-- fifteen answers, and the image has records of the five that are held. With the judge's answers beside them, as the paper's "one fact about judge and register",
+-- it is crates/demand3/proofs/Sample.antt.
 -- Assumes nothing.
 use Prim.Native.Nat.{ℕ}
 use mathlib.Core.Path.{_≡_, refl}
-use mathlib.Core.List.{[], flatten}
-use Rattle.words.specs.Lists.{keep, anyOf, nonEmpty, allBelow, anyBelow, tab, sumBelow, sameList}
-use Rattle.words.specs.First.{_orElse_, unless, first}
-use Rattle.words.specs.Bytes.{zeroFrom, bit, bits}
+use mathlib.Core.List.{[], _∷_, flatten}
+use lib.ListN.{getD}
+use Rattle.words.specs.Bytes.{bits}
 use Rattle.words.specs.Sums.{addWord, addWords, sums, words}
-use Rattle.format.specs.Answer.{accept, refusing, accepting}
 use Rattle.format.specs.Layout.{capacity}
-use Rattle.format.specs.Block.{goodLength, checkOf, goodCheck, sumBytes, sealed}
-use Rattle.format.specs.Request.{hasRole, usedLevel, blankLevel, depthOf, goodContext, goodRequest, requestFault}
-use Rattle.format.specs.Rule.{ruleAt, goodMark, goodLevel, blankLevel as blankRuleLevel, goodStep, goodSteps, goodRule, goodRoles, goodPrivileges, goodExclusion, blankExclusion, goodRuleBytes, goodExclusionAt, ruleFault}
-use Rattle.format.specs.Fits.{levelFits, fits, placeValue, place, samePlace}
-use Rattle.format.specs.Policy.{goodPermission, goodPermissionBytes, permissionFault, goodPolicyHeader, policyBlockFault, policyFault, ruleCount, permissionsAt, policyOf, stamp}
-use Rattle.format.specs.Table.{goodMarks, goodRecord, recordAt, gap, goodTableHeader, goodStamp, tableBlockFault, tableLengthFault, tableFault, recordsOf, recordImage, blockImage, tableImage, freshTable}
-use Rattle.format.specs.Calls.{checkPolicy}
-use Rattle.judge.specs.Tally.{sameUser, does, countsFor, roleTally, timesListed, timesDone, repeats, privilegeTally, tally, reached, exclusionNumber, counted}
-use Rattle.judge.specs.Verdict.{grants, permitted, isFirst, isLast, judges, failing, verdict}
-use Rattle.judge.specs.NewTable.{standsIn, openIn, pastIn, ends, gives, recordOf, cleared, sweep, newTable, grantOf, tableAfter, judgeFault, judge}
-use Rattle.judge.specs.Decide.{decideFault, decide}
+use Rattle.format.specs.Block.{checkOf, sumBytes, sealed}
+use Rattle.format.specs.Rule.{ruleAt}
+use Rattle.format.specs.Policy.{ruleCount, permissionsAt, policyOf}
+use Rattle.format.specs.Table.{Record}
 use Rattle.judge.specs.Sample.{samplePolicy, sampleRequests, sampleAnswers}
-use Rattle.register.specs.Run.{numbered, entriesOf, afterLatest, fromEarliest, ofPlace, run}
-use Rattle.register.specs.Register.{runOf, openRun, pastRun, isIn, lies, liesInSome, heldOf, removedOf, recordedOf, registerFault, granted, registerStep}
-use Rattle.register.specs.Demand3.{answers}
+use Rattle.register.specs.Register.{registerStep}
+use Rattle.register.specs.Image.{recordFor, recordsFor}
+use Rattle.register.specs.Demand3.{answers, after}
+use Rattle.register.proofs.Examples.{opened}
 
-pub record Session : Type 0 where
-  pub policy : checkPolicy samplePolicy ≡ accept 2
-  pub judge : answers (decide samplePolicy) (freshTable samplePolicy 1) sampleRequests ≡ sampleAnswers
-  pub register : answers (registerStep (policyOf samplePolicy) (capacity 1)) [] sampleRequests ≡ sampleAnswers
+-- what these two compute with besides
+openedBytes : Unit {0}
+unfolding flatten addWord addWords sums words checkOf sumBytes sealed ruleAt ruleCount permissionsAt policyOf samplePolicy sampleRequests sampleAnswers
+openedBytes = tt
 
-pub session : Session
-unfolding keep anyOf nonEmpty allBelow anyBelow tab sumBelow sameList flatten _orElse_ unless first zeroFrom bit bits addWord addWords sums words refusing accepting goodLength checkOf goodCheck sumBytes sealed hasRole usedLevel blankLevel depthOf goodContext goodRequest requestFault ruleAt goodMark goodLevel blankRuleLevel goodStep goodSteps goodRule goodRoles goodPrivileges goodExclusion blankExclusion goodRuleBytes goodExclusionAt ruleFault levelFits fits placeValue place samePlace goodPermission goodPermissionBytes permissionFault goodPolicyHeader policyBlockFault policyFault ruleCount permissionsAt policyOf stamp goodMarks goodRecord recordAt gap goodTableHeader goodStamp tableBlockFault tableLengthFault tableFault recordsOf recordImage blockImage tableImage freshTable checkPolicy sameUser does countsFor roleTally timesListed timesDone repeats privilegeTally tally reached exclusionNumber counted grants permitted isFirst isLast judges failing verdict standsIn openIn pastIn ends gives recordOf cleared sweep newTable grantOf tableAfter judgeFault judge decideFault decide samplePolicy sampleRequests sampleAnswers numbered entriesOf afterLatest fromEarliest ofPlace run runOf openRun pastRun isIn lies liesInSome heldOf removedOf recordedOf registerFault granted registerStep answers
-session = record { policy = refl; judge = refl; register = refl }
+pub fifteen : answers (registerStep (policyOf samplePolicy) (capacity 1)) [] sampleRequests ≡ sampleAnswers
+unfolding opened openedBytes answers
+fifteen = refl
+
+-- the record of the paper's request n, from 1
+abbrev kept : ℕ → ℕ → Record
+kept n marks = record { request = getD ([] ∷ sampleRequests) n []; marks = marks }
+
+-- rule 1 counts requests 4 and 10, rule 2 counts 12, 14 and 15
+pub five-held :
+    recordsFor (policyOf samplePolicy) (after (registerStep (policyOf samplePolicy) (capacity 1)) [] sampleRequests)
+    ≡ kept 4 1 ∷ kept 10 1 ∷ kept 12 2 ∷ kept 14 2 ∷ kept 15 2 ∷ []
+unfolding opened openedBytes bits recordFor recordsFor after
+five-held = refl

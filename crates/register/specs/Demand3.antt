@@ -8,7 +8,7 @@
 --            counts, in the order granted, marked for exactly those rules;
 --   nobody:  at no point has any user reached the forbidden number in any run of a rule, the step just granted counted in.
 --
--- The proof is proofs/Demand3.antt of this crate.
+-- The proof is crates/demand3/proofs/Demand3.antt.
 -- Assumes nothing.
 use Prim.Native.Nat.{ℕ, _≤_}
 use mathlib.Core.Path.{_≡_}
@@ -36,20 +36,27 @@ unfoldable pub states : {S C : Type 0} → (S → C → Outcome S) → S → Lis
 states step s [] = s ∷ []
 states step s (c ∷ cs) = s ∷ states step (step s c .state) cs
 
--- ---- nobody has reached the forbidden number, at any point
+-- the state after the last one
+unfoldable pub after : {S C : Type 0} → (S → C → Outcome S) → S → List C → S
+after step s [] = s
+after step s (c ∷ cs) = after step (step s c .state) cs
 
--- what a grant asks besides: "the step just granted counted in"
+-- what is asked of a grant besides, and of no other answer
 unfoldable pub AtGrant : Answer → Type 0 → Type 0
 AtGrant (accept n) X = Unit {0}
 AtGrant (grant recorded removed held) X = X
 AtGrant (refuse r) X = Unit {0}
 
+-- a claim about the state at every point, and another about each call that is granted, with the state before it
+unfoldable pub AtEvery : {S C : Type 0} → (S → C → Outcome S) → (S → Type 0) → (S → C → Type 0) → S → List C → Type 0
+AtEvery step AtPoint AtStep s [] = AtPoint s
+AtEvery step AtPoint AtStep s (c ∷ cs) =
+    AtPoint s × AtGrant (step s c .answer) (AtStep s c) × AtEvery step AtPoint AtStep (step s c .state) cs
+
+-- ---- nobody has reached the forbidden number, at any point, "the step just granted counted in"
+
 unfoldable pub NobodyEver : Policy → ℕ → List Request → List (List ℕ) → Type 0
-NobodyEver p room l [] = Nobody p (standing p l)
-NobodyEver p room l (q ∷ qs) =
-    Nobody p (standing p l)
-    × AtGrant (registerStep p room l q .answer) (Nobody p (withStep p l q))
-    × NobodyEver p room (registerStep p room l q .state) qs
+NobodyEver p room l qs = AtEvery (registerStep p room) (λ l′. Nobody p (standing p l′)) (λ l′ q. Nobody p (withStep p l′ q)) l qs
 
 -- ---- the claim
 

@@ -8,7 +8,7 @@ use lib.ListN.{length}
 use lib.Dec.{eqb, leb}
 use Rattle.words.specs.Lists.{keep, anyOf, anyBelow, nonEmpty}
 use Rattle.words.specs.First.{_orElse_, unless}
-use Rattle.format.specs.Answer.{Answer, grant, Refusal, refusal, Outcome, refusing}
+use Rattle.format.specs.Answer.{grant, Refusal, refusal, Outcome, refusing}
 use Rattle.format.specs.Request.{Request, requestFault}
 use Rattle.format.specs.Fits.{place}
 use Rattle.format.specs.Policy.{Policy}

@@ -1,9 +1,8 @@
 -- "The full register. State: the list of all granted requests, nothing dropped." The runs of a rule in that list.
 -- Assumes nothing.
-use Prim.Native.Nat.{ℕ, zero, suc}
+use Prim.Native.Nat.{ℕ, suc}
 use mathlib.Core.Bool.{Bool, cond, _&&_}
 use mathlib.Core.List.{List, [], _∷_}
-use lib.Dec.{eqb}
 use Rattle.words.specs.Lists.{keep, anyOf, sameList}
 use Rattle.format.specs.Request.{Request}
 use Rattle.format.specs.Rule.{Rule, isSet}

@@ -8,7 +8,7 @@ use lib.ListN.{length}
 use lib.Seq.{take-at, drop-at}
 use Rattle.format.specs.Answer.{accept}
 use Rattle.judge.specs.Sample.{samplePolicy, sampleRequests, sampleAnswers}
-use Rattle.register.proofs.Sample.{session}
+use Rattle.demand3.proofs.Sample.{session}
 use Rattle.session.specs.Session.{cut, written, Ran}
 
 -- whatever the requests and their lengths, they are what their bytes are cut into

@@ -7,32 +7,22 @@ use mathlib.Core.Option.{Option, none, some}
 use native.Mathlib.Omega.{arith}
 use Rattle.words.specs.First.{_orElse_}
 use Rattle.word_laws.proofs.First.{none-first, none-second, passes-unless}
-use Rattle.format.specs.Answer.{Answer, accept, refuse, Refusal, Outcome, refusing}
+use Rattle.format.specs.Answer.{Answer, accept, Refusal, Outcome, refusing}
 use Rattle.format.specs.Layout.{capacity}
 use Rattle.format.specs.Block.{blocks}
 use Rattle.format.specs.Policy.{policyFault}
 use Rattle.format.specs.Table.{tableLengthFault, freshTable}
 use Rattle.format.specs.Calls.{makeTable}
 use Rattle.judge.specs.Decide.{decide}
-use Rattle.register.specs.Demand3.{answers, Kept, Demand3}
-use Rattle.register.specs.Consequences.{after}
-use Rattle.register.proofs.Demand3.{demand-3}
-use Rattle.register.proofs.Consequences.{last-table}
+use Rattle.register.specs.Demand3.{answers, after, Kept, Demand3}
+use Rattle.demand3.proofs.Demand3.{demand-3, last-table}
+use Rattle.demand3.proofs.Consequences.{untouched}
 use Rattle.engine.proofs.Checked.{Blocked, good-blocked}
 use Rattle.session.specs.Session.{written, AsRegister, Ran}
 
 module _ (policy buffer : List ℕ) where
   abbrev made : Outcome (List ℕ)
   made = record { answer = accept (capacity (blocks buffer)); state = freshTable policy (blocks buffer) }
-
-  -- where no table is made, the buffer is as it was
-  refused-buffer : (r : Refusal) → makeTable policy buffer .answer ≡ refuse r → makeTable policy buffer .state ≡ buffer
-  unfolding makeTable refusing
-  refused-buffer r = go (policyFault policy orElse tableLengthFault buffer)
-    where
-      go : (o : Option Refusal) → refusing o buffer made .answer ≡ refuse r → refusing o buffer made .state ≡ buffer
-      go none e = absurd (let z : _≡_ {A = ℕ} 0 1 = cc in omega arith)
-      go (some x) e = refl
 
   -- where one is made, policy and length have passed, and it is the fresh one
   accepted-none : (n : ℕ) → makeTable policy buffer .answer ≡ accept n → policyFault policy orElse tableLengthFault buffer ≡ none
@@ -95,6 +85,6 @@ module _ (policy buffer : List ℕ) where
     ran-refused never =
         record {
           made = answer-is;
-          refused = λ r x. (state-is ∙ refused-buffer r (sym answer-is ∙ x), refl);
+          refused = λ r x. (state-is ∙ untouched .making policy buffer r (sym answer-is ∙ x), refl);
           kept = λ n x. absurd (never n x);
         }

@@ -9,8 +9,7 @@ use native.Mathlib.Numerals.{add-one}
 use lib.ListN.{length, getD, take, drop, length-append, length-take, length-drop, drop-of-length-le}
 use lib.Seq.{sets, sets-eq, take-at, take-all, drop-cons, drop-drop}
 use Rattle.format.specs.Answer.{Answer, Outcome}
-use Rattle.register.specs.Demand3.{answers}
-use Rattle.register.specs.Consequences.{after}
+use Rattle.register.specs.Demand3.{answers, after}
 use Rattle.engine.specs.Code.{answerOf}
 use Rattle.engine.specs.declared.reply.Reply.{Reply}
 use Rattle.session.specs.Session.{cut, fourNumbers, written}

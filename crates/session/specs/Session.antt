@@ -12,8 +12,7 @@ use Rattle.format.specs.Calls.{makeTable}
 use Rattle.format.specs.Policy.{policyOf}
 use Rattle.register.specs.Register.{registerStep}
 use Rattle.register.specs.Image.{registerImage}
-use Rattle.register.specs.Demand3.{answers, NobodyEver}
-use Rattle.register.specs.Consequences.{after}
+use Rattle.register.specs.Demand3.{answers, after, NobodyEver}
 use Rattle.engine.specs.Numbers.{four}
 
 -- The requests, "whatever the bytes and length of each": bytes cut one after another into pieces of these lengths. Where the bytes end early, a piece

@@ -5,8 +5,7 @@ ghost use Prim.Native.Nat.{_+_, _-_, _*_, _≤_, min};
 ghost use lib.ListN.{length};
 ghost use lib.Seq.{sets};
 ghost use Rattle.judge.specs.Decide.{decide as decideOf};
-ghost use Rattle.register.specs.Demand3.{answers as answersOf};
-ghost use Rattle.register.specs.Consequences.{after};
+ghost use Rattle.register.specs.Demand3.{answers as answersOf, after};
 ghost use Rattle.engine.specs.Code.{answerOf};
 ghost use Rattle.session.specs.Session.{cut, fourNumbers, written, Ran};
 use engine::checks::make_table;
@@ -14,15 +13,14 @@ use engine::deciding::decide;
 use engine::reply::Reply;
 
 // Where a request of n bytes ends that begins at a byte of these many.
-fn end_of(bytes: usize, at: usize, n: u32) -> usize
+fn end_of(bytes: usize, at: usize, n: usize) -> usize
     requires { ⌜ at ≤ bytes ⌝ }
     ensures { λ r. ⌜ r ≡ at + min n (bytes - at) ⌝ }
 {
-    let length = n as usize;
-    if bytes - at < length {
+    if bytes - at < n {
         return bytes;
     }
-    at + length
+    at + n
 }
 
 // Writes four numbers.
@@ -53,7 +51,7 @@ fn decide_each(
     policy: &[u8],
     table: &mut [u8],
     requests: &[u8],
-    lengths: &[u32],
+    lengths: &[usize],
     answers: &mut [u32],
 )
     requires { ⌜ length (now answers) ≡ 4 * length (now lengths) ⌝ }
@@ -74,7 +72,7 @@ pub fn run(
     policy: &[u8],
     table: &mut [u8],
     requests: &[u8],
-    lengths: &[u32],
+    lengths: &[usize],
     answers: &mut [u32],
 ) -> Reply
     requires { ⌜ length (now answers) ≡ 4 * length (now lengths) ⌝ }

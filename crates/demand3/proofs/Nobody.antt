@@ -1,33 +1,32 @@
 -- Nobody reaches the forbidden number: a grant is given only where step 3 finds everyone below m, and a run grows by granted requests alone.
 -- Assumes nothing.
-use Prim.Native.Nat.{ℕ, zero, suc, _+_, _<_, _≤_, min}
-use mathlib.Core.Path.{_≡_, refl, sym, ap, _∙_, subst}
-use mathlib.Core.Bool.{Bool, true, false, cond, not, _&&_, _||_}
+use Prim.Native.Nat.{ℕ, zero, suc, _<_, min}
+use mathlib.Core.Path.{_≡_, refl, subst}
+use mathlib.Core.Bool.{Bool, true, false, cond, _&&_}
 use mathlib.Core.List.{List, [], _∷_, _++_, map, append-nil}
 use mathlib.Core.Option.{Option, none, some}
 use native.Mathlib.Nat.{min-zero}
 use native.Mathlib.Omega.{arith}
 use borrow.Author.Tests.{eqb-true, lt-leb, not-true}
-use lib.ListN.{length}
-use lib.Dec.{eqb, leb}
-use Rattle.words.specs.Lists.{keep, anyOf, nonEmpty, sumBelow, sameList}
-use Rattle.words.specs.First.{_orElse_, unless, first}
+use lib.Dec.{eqb}
+use Rattle.words.specs.Lists.{keep, anyOf, sumBelow, sameList}
 use Rattle.word_laws.proofs.Keep.{keep-append, map-append}
 use Rattle.word_laws.proofs.Same.{same-eq, same-refl}
 use Rattle.word_laws.proofs.First.{none-first, none-second, passes-unless, none-at}
-use Rattle.format.specs.Answer.{Refusal, refusal, refusing}
+use Rattle.format.specs.Answer.{Refusal, refusing}
 use Rattle.format.specs.Request.{Request, user, requestFault}
-use Rattle.format.specs.Rule.{Rule, Exclusion, isSet}
+use Rattle.format.specs.Rule.{Rule, Exclusion}
 use Rattle.format.specs.Fits.{fits, place}
 use Rattle.format.specs.Policy.{Policy}
-use Rattle.judge.specs.Tally.{sameUser, roleTally, timesListed, timesDone, repeats, privilegeTally, tally, reached, exclusionNumber, counted}
-use Rattle.judge.specs.Verdict.{permitted, isFirst, isLast, judges, failing, verdict}
-use Rattle.register.specs.Run.{Entry, entriesOf, ofPlace, run}
+use Rattle.judge.specs.Tally.{sameUser, roleTally, timesListed, timesDone, repeats, privilegeTally, tally, reached, counted}
+use Rattle.judge.specs.Verdict.{isLast, judges, failing, verdict}
+use Rattle.register.specs.Run.{Entry, ofPlace}
 use Rattle.register.specs.Register.{runOf, openRun, pastRun, registerFault, granted, registerStep}
 use Rattle.register.specs.Reached.{NobodyIn, standing, withStep, Nobody}
 use Rattle.register.specs.Demand3.{AtGrant, NobodyEver}
-use Rattle.register.proofs.Run.{next, entries-nil, run-nil, runNext, continues}
-use Rattle.register.proofs.Lies.{runOf-snoc}
+use Rattle.demand3.proofs.Calls.{at-every}
+use Rattle.demand3.proofs.Run.{next, entries-nil, run-nil, continues}
+use Rattle.demand3.proofs.Lies.{runOf-snoc}
 
 -- ---- no requests, no count
 
@@ -145,23 +144,21 @@ at-start : (p : Policy) → Positive p → Nobody p (standing p [])
 unfolding Nobody NobodyIn standing runOf keep
 at-start p pos i h e k key u = rw (entries-nil, run-nil) (none-reached (p .rule i .exclusion e) (pos i h e k))
 
--- from a list at which nobody has reached m, over any requests
-onwards : (p : Policy) (room : ℕ) → Positive p → (qs : List (List ℕ)) (l : List Request) → Nobody p (standing p l) → NobodyEver p room l qs
-unfolding NobodyEver AtGrant registerStep granted refusing registerFault
-onwards p room pos [] l now = now
-onwards p room pos (q ∷ qs) l now = go (onwards p room pos qs) (registerFault p room l q) refl
+-- one request
+keeps :
+    (p : Policy) (room : ℕ) → Positive p → (l : List Request) (q : List ℕ) → Nobody p (standing p l)
+    → AtGrant (registerStep p room l q .answer) (Nobody p (withStep p l q)) × Nobody p (standing p (registerStep p room l q .state))
+unfolding AtGrant registerStep granted refusing registerFault
+keeps p room pos l q now = go (registerFault p room l q) refl
   where
     go :
-        ((l′ : List Request) → Nobody p (standing p l′) → NobodyEver p room l′ qs)
-        → (f : Option Refusal) → registerFault p room l q ≡ f
-        → Nobody p (standing p l)
-        × AtGrant (refusing f l (granted p l q) .answer) (Nobody p (withStep p l q))
-        × NobodyEver p room (refusing f l (granted p l q) .state) qs
-    go rest none e =
-        let passes : verdict p q (openRun p l q) (pastRun p l q) ≡ none = none-first _ _ (none-second (requestFault q) _ e) in
-        let at : Nobody p (withStep p l q) = at-grant p l q now passes in
-        (now, at, rest (l ++ (q ∷ [])) (after-grant p l q pos now at))
-    go rest (some r) e = (now, tt, rest l now)
+        (f : Option Refusal) → registerFault p room l q ≡ f
+        → AtGrant (refusing f l (granted p l q) .answer) (Nobody p (withStep p l q)) × Nobody p (standing p (refusing f l (granted p l q) .state))
+    go none e =
+        let at : Nobody p (withStep p l q) = at-grant p l q now (none-first _ _ (none-second (requestFault q) _ e)) in
+        (at, after-grant p l q pos now at)
+    go (some r) e = (tt, now)
 
 pub nobody-ever : (p : Policy) (room : ℕ) → Positive p → (qs : List (List ℕ)) → NobodyEver p room [] qs
-nobody-ever p room pos qs = onwards p room pos qs [] (at-start p pos)
+unfolding NobodyEver
+nobody-ever p room pos qs = at-every _ (λ l. Nobody p (standing p l)) (λ l q. Nobody p (withStep p l q)) (keeps p room pos) qs [] (at-start p pos)

@@ -1,21 +1,20 @@
 -- "lie in at least one run of any rule and place": an entry that lies in a run of a rule at any place lies in the one at its own place. So the definition
 -- of `lies`, which looks there alone, misses nothing.
 -- Assumes nothing.
-use Prim.Native.Nat.{ℕ, zero, suc, _+_, _<_, _≤_}
-use mathlib.Core.Path.{_≡_, refl, sym, ap, _∙_}
-use mathlib.Core.Bool.{Bool, true, false, cond, _&&_, _||_, false≢true}
+use Prim.Native.Nat.{ℕ, suc, _<_, _≤_}
+use mathlib.Core.Path.{_≡_, refl, sym, _∙_}
+use mathlib.Core.Bool.{Bool, true, false, cond, false≢true}
 use mathlib.Core.List.{List, [], _∷_}
 use native.Mathlib.Omega.{arith}
 use borrow.Author.Tests.{ne-eqb}
-use lib.Dec.{eqb}
 use Rattle.words.specs.Lists.{keep, anyOf}
 use Rattle.word_laws.proofs.Every.{Every, empty, more as also, every-weaken, every-both, every-keep, every-forall}
 use Rattle.word_laws.proofs.Tests.{both-first}
 use Rattle.format.specs.Request.{Request}
 use Rattle.format.specs.Policy.{Policy}
 use Rattle.register.specs.Run.{Entry, numbered, entriesOf}
 use Rattle.register.specs.Register.{runOf, isIn, lies}
-use Rattle.register.proofs.Lies.{stands, run-lies}
+use Rattle.demand3.proofs.Lies.{stands, run-lies}
 
 numbered-from : (k : ℕ) (l : List Request) → Every (λ x. k ≤ x .at) (numbered k l)
 unfolding numbered

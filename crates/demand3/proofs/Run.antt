@@ -1,21 +1,19 @@
 -- A run is known by what the empty list and one more grant do to it: `run-nil`, `run-snoc`; and all that it has is of its place and stands in the
 -- list: `run-place`, `run-before`. Nothing above this file looks into the definition of `run`.
 -- Assumes nothing.
-use Prim.Native.Nat.{ℕ, zero, suc, _+_, _<_, _≤_}
-use mathlib.Core.Path.{_≡_, refl, sym, ap, _∙_, subst}
-use mathlib.Core.Bool.{Bool, true, false, cond, not, _&&_, _||_, or-false, or-true}
-use mathlib.Core.List.{List, [], _∷_, _++_, map, append-nil}
+use Prim.Native.Nat.{ℕ, suc, _+_, _<_}
+use mathlib.Core.Path.{_≡_, refl, _∙_}
+use mathlib.Core.Bool.{Bool, true, false, cond, not, _||_, or-false, or-true}
+use mathlib.Core.List.{List, [], _∷_, _++_, append-nil}
 use native.Mathlib.Omega.{arith}
-use lib.ListN.{length, length-append}
-use lib.Dec.{eqb}
-use Rattle.words.specs.Lists.{keep, anyOf, nonEmpty, sameList}
+use lib.ListN.{length}
+use Rattle.words.specs.Lists.{keep, anyOf, nonEmpty}
 use Rattle.word_laws.proofs.Every.{Every, empty, more as also, every-all, every-append, every-left, every-right, every-head, every-weaken}
 use Rattle.word_laws.proofs.Keep.{snoc-induction, keep-append, anyOf-append}
 use Rattle.format.specs.Request.{Request}
 use Rattle.format.specs.Rule.{Rule, isSet}
-use Rattle.format.specs.Fits.{fits, place}
 use Rattle.judge.specs.Verdict.{isFirst, isLast}
 use Rattle.register.specs.Run.{Entry, numbered, entriesOf, afterLatest, fromEarliest, ofPlace, run}
 
 -- ---- entries
 

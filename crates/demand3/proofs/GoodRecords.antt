@@ -1,37 +1,36 @@
 -- The records that the register prescribes are good ones: whole, with a mark, and marked only for rules that their context fits.
 -- Assumes nothing.
-use Prim.Native.Nat.{ℕ, zero, suc, _+_, _^_, _<_, _≤_}
-use mathlib.Core.Path.{_≡_, refl, sym, ap, _∙_}
-use mathlib.Core.Bool.{Bool, true, false, cond, not, _&&_, _||_}
-use mathlib.Core.List.{List, [], _∷_, map}
+use Prim.Native.Nat.{ℕ, suc, _<_, _≤_}
+use mathlib.Core.Path.{_≡_, refl, _∙_}
+use mathlib.Core.Bool.{Bool, true, false, not, _&&_, _||_}
+use mathlib.Core.List.{List}
 use mathlib.Core.Option.{none}
 use native.Mathlib.Decide.{decLt}
 use native.Mathlib.Nat.{lt-of-lt-of-le}
 use native.Mathlib.Omega.{arith}
 use borrow.Author.Tests.{eqb-true, lt-ltb}
 use lib.ListN.{length}
-use lib.Dec.{eqb, ltb}
+use lib.Dec.{ltb}
 use lib.Pow.{pow-mono}
-use Rattle.words.specs.Lists.{keep, allBelow, sameList}
-use Rattle.words.specs.Bytes.{bits}
-use Rattle.word_laws.proofs.Every.{Every, empty, more as also, every-all, every-weaken, every-map, every-keep, every-kept, kept-passes, every-forall, every-both}
-use Rattle.word_laws.proofs.Bits.{bit-bits, bit-beyond, bits-below}
+use Rattle.words.specs.Lists.{keep}
+use Rattle.word_laws.proofs.Every.{Every, empty, more as also, every-weaken, every-map, every-keep, every-kept, kept-passes, every-forall, every-both}
+use Rattle.word_laws.proofs.Bits.{bit-beyond, bits-below}
 use Rattle.word_laws.proofs.First.{none-first, none-second, passes-unless}
 use Rattle.word_laws.proofs.Tests.{both, both-first, allBelow-true}
 use Rattle.word_laws.proofs.Same.{same-refl}
 use Rattle.format.specs.Layout.{requestBytes, mostRules}
-use Rattle.format.specs.Request.{Request, goodRequest, requestFault}
+use Rattle.format.specs.Request.{Request, requestFault}
 use Rattle.format.specs.Rule.{Rule}
 use Rattle.format.specs.Fits.{fits, place}
 use Rattle.format.specs.Policy.{Policy}
-use Rattle.format.specs.Table.{Record, marked, hasMark, goodMarks, goodRecord}
+use Rattle.format.specs.Table.{marked, goodMarks, goodRecord}
 use Rattle.format_laws.proofs.TableImage.{Whole}
-use Rattle.register.specs.Run.{Entry, numbered, entriesOf, ofPlace, run}
+use Rattle.register.specs.Run.{Entry, numbered, entriesOf, ofPlace}
 use Rattle.register.specs.Register.{runOf, lies, liesInSome}
 use Rattle.register.specs.Image.{recordFor, recordsFor}
-use Rattle.register.proofs.Run.{run-place}
-use Rattle.register.proofs.Lies.{stands, run-lies}
-use Rattle.register.proofs.Step.{has-mark, marked-for}
+use Rattle.demand3.proofs.Run.{run-place}
+use Rattle.demand3.proofs.Lies.{stands, run-lies}
+use Rattle.demand3.proofs.Step.{has-mark, marked-for}
 
 -- a granted request has passed its check
 abbrev pub Granted : Request → Type 0

@@ -1,33 +1,31 @@
 -- One request: where the table's records are those that the register prescribes, the judge and the register say the same and leave the same.
 -- This holds of every list of requests, whether decisions lead to it or not.
 -- Assumes nothing.
-use Prim.Native.Nat.{ℕ, zero, suc, _+_, _<_, _≤_}
-use mathlib.Core.Path.{_≡_, refl, sym, ap, _∙_, subst, fun-ext}
-use mathlib.Core.Bool.{Bool, true, false, cond, not, _&&_, _||_, and-false}
+use Prim.Native.Nat.{ℕ, _+_, _<_, _≤_}
+use mathlib.Core.Path.{_≡_, refl, sym, ap, _∙_}
+use mathlib.Core.Bool.{Bool, true, false, cond, not, _&&_, and-false}
 use mathlib.Core.List.{List, [], _∷_, _++_, map}
-use mathlib.Core.Option.{Option, none, some}
+use mathlib.Core.Option.{Option, none}
 use native.Mathlib.Omega.{arith}
 use lib.ListN.{length, length-append, length-map}
-use lib.Dec.{eqb, leb}
-use Rattle.words.specs.Lists.{keep, anyOf, anyBelow, nonEmpty, sameList}
-use Rattle.words.specs.First.{_orElse_, unless, first}
-use Rattle.words.specs.Bytes.{bit, bits}
-use Rattle.word_laws.proofs.Every.{Every, every-all, every-weaken, keep-same, map-same, every-keep}
+use Rattle.words.specs.Lists.{keep, nonEmpty, sameList}
+use Rattle.words.specs.First.{_orElse_, unless}
+use Rattle.word_laws.proofs.Every.{every-all, every-weaken, keep-same, map-same, every-keep}
 use Rattle.word_laws.proofs.Keep.{keep-append, keep-keep, keep-map, keep-split, anyOf-keep, nonEmpty-map, map-map, map-append}
 use Rattle.word_laws.proofs.Bits.{bit-bits, bits-same, bits-some, anyBelow-same, anyBelow-at, anyBelow-both}
 use Rattle.word_laws.proofs.First.{first-same}
-use Rattle.format.specs.Answer.{Answer, grant, Refusal, refusal, Outcome, refusing}
+use Rattle.format.specs.Answer.{grant, Refusal, refusal}
 use Rattle.format.specs.Request.{Request, requestFault}
 use Rattle.format.specs.Fits.{place, samePlace}
 use Rattle.format.specs.Policy.{Policy}
 use Rattle.format.specs.Table.{Record, marked, hasMark}
-use Rattle.judge.specs.Verdict.{judges, failing, permitted, isLast, verdict}
+use Rattle.judge.specs.Verdict.{judges, failing, permitted, verdict}
 use Rattle.judge.specs.NewTable.{standsIn, openIn, pastIn, ends, gives, recordOf, cleared, sweep, newTable, grantOf, tableAfter, judgeFault}
 use Rattle.register.specs.Run.{Entry, entriesOf}
 use Rattle.register.specs.Register.{runOf, openRun, pastRun, lies, liesInSome, heldOf, removedOf, recordedOf, registerFault}
 use Rattle.register.specs.Image.{recordFor, recordsFor}
-use Rattle.register.proofs.Run.{next, entries-snoc, entries-before}
-use Rattle.register.proofs.Lies.{lies-old, lies-new, stands, run-lies}
+use Rattle.demand3.proofs.Run.{next, entries-snoc, entries-before}
+use Rattle.demand3.proofs.Lies.{lies-old, lies-new, stands, run-lies}
 
 module _ (p : Policy) (l : List Request) where
   -- a record of the image is marked for the rules in whose runs the entry lies

@@ -1,37 +1,36 @@
--- Demand 3, proved: specs/Demand3.antt says in plain words what it claims.
+-- Demand 3, proved: crates/register/specs/Demand3.antt says in plain words what it claims.
 -- The chain: on one request judge and register agree (Step.antt) and nobody reaches m (Nobody.antt), for every list of requests; the image of good
 -- records passes the table's check and reads back (format's TableImage.antt), and the register's records are good (GoodRecords.antt); so `decide` on
--- the image of a list leaves the image of the next list (`decide-step`), and the claim follows by induction over the requests.
+-- the image of a list leaves the image of the next list (`decide-step`), and the claim follows by the laws of calls one after another (Calls.antt).
 -- Assumes nothing.
-use Prim.Native.Nat.{ℕ, _≤_, _<_}
-use mathlib.Core.Path.{_≡_, refl, sym, ap, ap₂, _∙_}
-use mathlib.Core.Bool.{Bool, true}
-use mathlib.Core.List.{List, [], _∷_, _++_, map}
+use Prim.Native.Nat.{ℕ, _≤_}
+use mathlib.Core.Path.{_≡_, refl, sym, _∙_}
+use mathlib.Core.List.{List, [], _∷_, _++_}
 use mathlib.Core.Option.{Option, none, some}
 use native.Mathlib.Omega.{arith}
 use borrow.Author.Tests.{leb-true}
-use lib.ListN.{length, length-map}
+use lib.ListN.{length}
 use Rattle.words.specs.Lists.{keep}
-use Rattle.words.specs.First.{_orElse_}
 use Rattle.word_laws.proofs.Every.{Every, empty, more as also, every-append}
 use Rattle.word_laws.proofs.First.{none-first, none-second, passes-unless, none-orElse}
-use Rattle.format.specs.Answer.{Answer, grant, Refusal, Outcome, refusing}
+use Rattle.format.specs.Answer.{Refusal, Outcome, refusing}
 use Rattle.format.specs.Layout.{capacity, tableBlocks}
 use Rattle.format.specs.Block.{blocks}
 use Rattle.format.specs.Request.{Request, requestFault}
-use Rattle.format.specs.Policy.{Policy, policyFault, policyOf, ruleCount, stamp}
+use Rattle.format.specs.Policy.{Policy, policyFault, policyOf, stamp}
 use Rattle.format.specs.Table.{Record, tableFault, tableImage, recordsOf, freshTable}
 use Rattle.format_laws.proofs.TableImage.{image-blocks, reads-back, passes}
 use Rattle.format_laws.proofs.AcceptedPolicy.{rules-most, m-two}
-use Rattle.judge.specs.NewTable.{judgeFault, judge, grantOf, openIn, tableAfter}
+use Rattle.judge.specs.NewTable.{judgeFault, judge}
 use Rattle.judge.specs.Decide.{decideFault, decide}
 use Rattle.register.specs.Run.{entriesOf, numbered}
-use Rattle.register.specs.Register.{heldOf, liesInSome, registerFault, granted, registerStep}
-use Rattle.register.specs.Image.{recordFor, recordsFor, registerImage}
-use Rattle.register.specs.Demand3.{answers, states, Kept, Demand3}
-use Rattle.register.proofs.Step.{records-held, fault-same, grant-same, table-same}
-use Rattle.register.proofs.GoodRecords.{Granted, records-good, records-whole}
-use Rattle.register.proofs.Nobody.{Positive, nobody-ever}
+use Rattle.register.specs.Register.{heldOf, registerFault, granted, registerStep}
+use Rattle.register.specs.Image.{recordsFor, registerImage}
+use Rattle.register.specs.Demand3.{after, Kept, Demand3}
+use Rattle.demand3.proofs.Calls.{answers-same, states-same, after-same, fine-after}
+use Rattle.demand3.proofs.Step.{records-held, fault-same, grant-same, table-same}
+use Rattle.demand3.proofs.GoodRecords.{Granted, records-good, records-whole}
+use Rattle.demand3.proofs.Nobody.{Positive, nobody-ever}
 
 module _ (policy : List ℕ) (accepted : policyFault policy ≡ none) (b : ℕ) (some-block : 1 ≤ b) (few-blocks : b ≤ tableBlocks) where
   abbrev p : Policy
@@ -48,6 +47,9 @@ module _ (policy : List ℕ) (accepted : policyFault policy ≡ none) (b : ℕ) 
   positive : Positive p
   unfolding policyOf
   positive i h e k = omega (arith, m-two policy accepted i h e k)
+
+  abbrev step : List Request → List ℕ → Outcome (List Request)
+  step = registerStep p (capacity b)
 
   abbrev image : List Request → List ℕ
   image l = registerImage policy b l
@@ -106,20 +108,6 @@ module _ (policy : List ℕ) (accepted : policyFault policy ≡ none) (b : ℕ) 
 
   -- ---- all requests
 
-  answers-same :
-      (requests : List (List ℕ)) (l : List Request) → Fine l
-      → answers (decide policy) (image l) requests ≡ answers (registerStep p (capacity b)) l requests
-  unfolding answers imaged
-  answers-same [] l f = refl
-  answers-same (q ∷ qs) l f = rw (decide-step l f q, answers-same qs (registerStep p (capacity b) l q .state) (fine-step l f q))
-
-  tables-same :
-      (requests : List (List ℕ)) (l : List Request) → Fine l
-      → states (decide policy) (image l) requests ≡ map image (states (registerStep p (capacity b)) l requests)
-  unfolding states imaged
-  tables-same [] l f = refl
-  tables-same (q ∷ qs) l f = rw (decide-step l f q, tables-same qs (registerStep p (capacity b) l q .state) (fine-step l f q))
-
   -- the start: no request granted, no record, the fresh table
   no-records : recordsFor p [] ≡ []
   unfolding recordsFor entriesOf numbered keep
@@ -132,17 +120,24 @@ module _ (policy : List ℕ) (accepted : policyFault policy ≡ none) (b : ℕ) 
   pub fine-start : Fine []
   fine-start = (empty, rw no-records (omega arith))
 
+  -- the table that the requests leave is the image of the register that they leave, and the register is fine
+  pub last-table : (requests : List (List ℕ)) → after (decide policy) (freshTable policy b) requests ≡ image (after step [] requests)
+  unfolding imaged
+  last-table requests = rw (← fresh-image) (after-same (decide policy) step image Fine decide-step fine-step requests [] fine-start)
+
+  pub fine-last : (requests : List (List ℕ)) → Fine (after step [] requests)
+  unfolding imaged
+  fine-last requests = fine-after (decide policy) step image Fine decide-step fine-step requests [] fine-start
+
+  kept : (requests : List (List ℕ)) → Kept policy b requests
+  unfolding imaged
+  kept requests =
+      record {
+        answers-same = rw (← fresh-image) (answers-same (decide policy) step image Fine decide-step fine-step requests [] fine-start);
+        tables-same = rw (← fresh-image) (states-same (decide policy) step image Fine decide-step fine-step requests [] fine-start);
+        nobody = nobody-ever p (capacity b) positive requests;
+      }
+
 pub demand-3 : Demand3
 unfolding Demand3
-demand-3 policy accepted b some-block few-blocks requests =
-    record {
-      answers-same = rw (← start) (answers-same policy accepted b some-block few-blocks requests [] fine);
-      tables-same = rw (← start) (tables-same policy accepted b some-block few-blocks requests [] fine);
-      nobody = nobody-ever (policyOf policy) (capacity b) (positive policy accepted b some-block few-blocks) requests;
-    }
-  where
-    start : registerImage policy b [] ≡ freshTable policy b
-    start = fresh-image policy accepted b some-block few-blocks
-
-    fine : Every Granted [] × (length (recordsFor (policyOf policy) []) ≤ capacity b)
-    fine = fine-start policy accepted b some-block few-blocks
+demand-3 = kept

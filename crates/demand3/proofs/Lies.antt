@@ -1,10 +1,10 @@
 -- Which entries lie in a run after one more grant: an entry of before goes out with the run that the grant ends (`lies-old`), and the new one comes in
 -- where the request gets the rule's mark (`lies-new`). So the entries that lie in a run of a place are that run (`run-lies`).
 -- Assumes nothing.
-use Prim.Native.Nat.{ℕ, zero, suc, _+_, _<_, _≤_}
-use mathlib.Core.Path.{_≡_, refl, sym, ap, _∙_, subst}
+use Prim.Native.Nat.{ℕ, _<_}
+use mathlib.Core.Path.{_≡_, refl, sym, _∙_}
 use mathlib.Core.Bool.{Bool, true, false, cond, not, _&&_, _||_, and-false, and-true}
-use mathlib.Core.List.{List, [], _∷_, _++_, map, append-nil}
+use mathlib.Core.List.{List, [], _∷_, _++_, append-nil}
 use native.Mathlib.Omega.{arith}
 use borrow.Author.Tests.{ne-eqb, eq-eqb}
 use lib.ListN.{length}
@@ -19,9 +19,9 @@ use Rattle.format.specs.Fits.{fits, place, samePlace}
 use Rattle.format.specs.Policy.{Policy}
 use Rattle.judge.specs.Verdict.{isFirst, isLast, judges}
 use Rattle.judge.specs.NewTable.{ends, gives}
-use Rattle.register.specs.Run.{Entry, entriesOf, ofPlace, run}
+use Rattle.register.specs.Run.{Entry, entriesOf, ofPlace}
 use Rattle.register.specs.Register.{runOf, openRun, isIn, lies}
-use Rattle.register.proofs.Run.{next, entries-nil, entries-snoc, entries-before, continues, runNext, run-nil, run-snoc, run-before}
+use Rattle.demand3.proofs.Run.{next, entries-nil, entries-snoc, entries-before, runNext, run-nil, run-snoc, run-before}
 
 module _ (p : Policy) (i : ℕ) where
   -- the run after one more grant

@@ -1,0 +1,10 @@
+pub mod Calls
+pub mod Run
+pub mod Lies
+pub mod Step
+pub mod Nobody
+pub mod GoodRecords
+pub mod Demand3
+pub mod Consequences
+pub mod Adequacy
+pub mod Sample
