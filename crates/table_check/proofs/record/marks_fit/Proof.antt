@@ -15,7 +15,7 @@ use Rattle.table_check.proofs.record.marks_fit.Statement.{statement}
 use Rattle.table_check.proofs.record.marks_fit.Tie as tie
 
 abbrev Inv-loop : tie.InvT-loop
-Inv-loop shapes rules low high marks rest₀ rest = (rest < 4294967296) × (allSet 32 rest (shapeFits shapes low high) ≡ allSet 32 marks (shapeFits shapes low high))
+Inv-loop shapes rules low high marks rest₀ rest = (rest < 4294967296) × (allSet 32 rest (shapeFits shapes low high) ≡ allSet 32 (marks .0) (shapeFits shapes low high))
 
 abbrev μ-loop : tie.MeasureT-loop
 μ-loop shapes rules low high marks rest₀ rest = rest
@@ -27,7 +27,7 @@ returns : tie.Need-returns Inv-loop μ-loop
 returns c =
     let a = c .before .before .args in
     let within = c .before .marks-within in
-    rw (fits-split (a .shapes .now) (a .rules) (a .low) (a .high) (a .marks), ← within .ensures, not-true (within .result) (c .if1 .taken))
+    rw (fits-split (a .shapes .now) (a .rules) (a .low) (a .high) (a .marks .0), ← within .ensures, not-true (within .result) (c .if1 .taken))
 
 loop-holds : tie.Need-loop-holds Inv-loop μ-loop
 loop-holds c = (omega arith, refl)
@@ -48,7 +48,7 @@ returns-2 c =
     let shape-fits = c .before .shape-fits in
     let low = low-bit (c .before .before) in
     let fails = lowest-fails 32 (l .rest) _ _ (shapeFits (a .shapes .now) (a .low) (a .high)) (low .1) (low .0) (sym (shape-fits .ensures) ∙ not-true (shape-fits .result) (c .if2 .taken)) in
-    rw (fits-split (a .shapes .now) (a .rules) (a .low) (a .high) (a .marks), ← l .inv .1, fails) (sym (and-false (marksWithin (a .rules) (a .marks))))
+    rw (fits-split (a .shapes .now) (a .rules) (a .low) (a .high) (a .marks .0), ← l .inv .1, fails) (sym (and-false (marksWithin (a .rules) (a .marks .0))))
 
 sub-rest : tie.Need-sub-rest Inv-loop μ-loop
 sub-rest c = search needs
@@ -71,7 +71,7 @@ returns-3 c =
     let l = c .before .loop in
     let within = c .before .before .before .marks-within in
     let all = sym (l .inv .1) ∙ (rw (← c .loop-test .left) at (none-set 32 (shapeFits (a .shapes .now) (a .low) (a .high)))) in
-    rw (fits-split (a .shapes .now) (a .rules) (a .low) (a .high) (a .marks), ← within .ensures, not-false (within .result) (c .before .before .if1 .left)) (sym all)
+    rw (fits-split (a .shapes .now) (a .rules) (a .low) (a .high) (a .marks .0), ← within .ensures, not-false (within .result) (c .before .before .if1 .left)) (sym all)
 
 pub marks-fit-spec : {M : Type 1} → statement M
 marks-fit-spec =

@@ -20,7 +20,7 @@ headed : (c : tie.Else2) →
 headed c = sym (c .before .good-header .ensures) ∙ not-false (c .before .good-header .result) (c .if2 .left)
 
 stamped : (c : tie.Else3) →
-    let a = c .before .before .before .before .before .before .before .args in goodStamp (sumsOf (a .stamp)) (a .b .now) ≡ true
+    let a = c .before .before .before .before .before .before .before .args in goodStamp (sumsOf (a .checked .stamp)) (a .b .now) ≡ true
 stamped c = sym (c .before .good-stamp .ensures) ∙ not-false (c .before .good-stamp .result) (c .if3 .left)
 
 good-check-requires : tie.Need-good-check-requires
@@ -29,7 +29,7 @@ good-check-requires c κs = search needs
 returns : tie.Need-returns
 returns c =
     let a = c .before .before .before .args in
-    λ p of. bad-check (a .short) (a .k) (a .n) (a .b .now) p (sumsOf (a .stamp)) (sym (c .before .good-check .ensures) ∙ not-true (c .before .good-check .result) (c .if1 .taken))
+    λ p of. bad-check (a .short) (a .k) (a .n) (a .b .now) p (sumsOf (a .checked .stamp)) (sym (c .before .good-check .ensures) ∙ not-true (c .before .good-check .result) (c .if1 .taken))
 
 good-header-requires : tie.Need-good-header-requires
 good-header-requires c κs = search needs
@@ -37,7 +37,7 @@ good-header-requires c κs = search needs
 returns-2 : tie.Need-returns-2
 returns-2 c =
     let a = c .before .before .before .before .before .args in
-    λ p of. bad-head (a .short) (a .k) (a .n) (a .b .now) p (sumsOf (a .stamp)) (checked (c .before .before)) (sym (c .before .good-header .ensures) ∙ not-true (c .before .good-header .result) (c .if2 .taken))
+    λ p of. bad-head (a .short) (a .k) (a .n) (a .b .now) p (sumsOf (a .checked .stamp)) (checked (c .before .before)) (sym (c .before .good-header .ensures) ∙ not-true (c .before .good-header .result) (c .if2 .taken))
 
 good-stamp-requires : tie.Need-good-stamp-requires
 good-stamp-requires c κs = search needs
@@ -45,7 +45,7 @@ good-stamp-requires c κs = search needs
 returns-3 : tie.Need-returns-3
 returns-3 c =
     let a = c .before .before .before .before .before .before .before .args in
-    λ p of. bad-stamp (a .short) (a .k) (a .n) (a .b .now) p (sumsOf (a .stamp)) (checked (c .before .before .before .before)) (headed (c .before .before))
+    λ p of. bad-stamp (a .short) (a .k) (a .n) (a .b .now) p (sumsOf (a .checked .stamp)) (checked (c .before .before .before .before)) (headed (c .before .before))
     (sym (c .before .good-stamp .ensures) ∙ not-true (c .before .good-stamp .result) (c .if3 .taken))
 
 records-fault-requires : tie.Need-records-fault-requires
@@ -57,7 +57,7 @@ records-fault-requires c κs =
 returns-4 : tie.Need-returns-4
 returns-4 c =
     let a = c .before .before .before .before .before .before .before .before .args in
-    λ p of. c .records-fault .ensures p of ∙ by-records (a .short) (a .k) (a .n) (a .b .now) p (sumsOf (a .stamp)) (checked (c .before .before .before .before .before)) (headed (c .before .before .before)) (stamped (c .before))
+    λ p of. c .records-fault .ensures p of ∙ by-records (a .short) (a .k) (a .n) (a .b .now) p (sumsOf (a .checked .stamp)) (checked (c .before .before .before .before .before)) (headed (c .before .before .before)) (stamped (c .before))
 
 pub block-fault-spec : {M : Type 1} → statement M
 block-fault-spec =

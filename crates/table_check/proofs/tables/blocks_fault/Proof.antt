@@ -21,25 +21,25 @@ use Rattle.table_check.proofs.tables.blocks_fault.Statement.{statement}
 use Rattle.table_check.proofs.tables.blocks_fault.Tie as tie
 
 abbrev Inv-loop : tie.InvT-loop
-Inv-loop shapes rules stamp table n short₀ k₀ short k = (k ≤ n) × ((short ≡ shortBefore table k) × ((p : Policy) → Shapes p rules shapes → first (tableBlockFault p (sumsOf stamp) table) k (n - k) ≡ first (tableBlockFault p (sumsOf stamp) table) 0 n))
+Inv-loop shapes checked table n short₀ k₀ short k = (k ≤ n) × ((short ≡ shortBefore table k) × ((p : Policy) → Shapes p (checked .rules) shapes → first (tableBlockFault p (sumsOf (checked .stamp)) table) k (n - k) ≡ first (tableBlockFault p (sumsOf (checked .stamp)) table) 0 n))
 
 abbrev μ-loop : tie.MeasureT-loop
-μ-loop shapes rules stamp table n short₀ k₀ short k = n - k
+μ-loop shapes checked table n short₀ k₀ short k = n - k
 
 -- what `block_fault` answers is the fault of block k of the table
 fault : (c : tie.After-block-fault Inv-loop μ-loop) →
     let a = c .before .before .before .before .before .args in
-    (p : Policy) → Shapes p (a .rules) (a .shapes .now) → faultOf (c .block-fault .result) ≡ tableBlockFault p (sumsOf (a .stamp)) (a .table .now) (c .before .before .before .loop .k)
+    (p : Policy) → Shapes p (a .checked .rules) (a .shapes .now) → faultOf (c .block-fault .result) ≡ tableBlockFault p (sumsOf (a .checked .stamp)) (a .table .now) (c .before .before .before .loop .k)
 fault c p of =
     let a = c .before .before .before .before .before .args in
     let l = c .before .before .before .loop in
-    let e : faultOf (c .block-fault .result) ≡ tableFaultIn p (sumsOf (a .stamp)) (shortBefore (a .table .now) (l .k)) (l .k) (blocks (a .table .now)) (block (a .table .now) (l .k)) =
+    let e : faultOf (c .block-fault .result) ≡ tableFaultIn p (sumsOf (a .checked .stamp)) (shortBefore (a .table .now) (l .k)) (l .k) (blocks (a .table .now)) (block (a .table .now) (l .k)) =
     rw (part-to (a .table .now) (512 * l .k) 512, l .inv .1 .0) at (c .block-fault .ensures p of) in
-    e ∙ fault-of-block (a .table .now) (l .k) p (sumsOf (a .stamp))
+    e ∙ fault-of-block (a .table .now) (l .k) p (sumsOf (a .checked .stamp))
 
 loop-holds : tie.Need-loop-holds Inv-loop μ-loop
 unfolding anyBelow
-loop-holds c = let a = c .before .args in (omega arith, (refl, λ p of. first-start (tableBlockFault p (sumsOf (a .stamp)) (a .table .now)) (blocks (a .table .now))))
+loop-holds c = let a = c .before .args in (omega arith, (refl, λ p of. first-start (tableBlockFault p (sumsOf (a .checked .stamp)) (a .table .now)) (blocks (a .table .now))))
 
 mul-at : tie.Need-mul-at Inv-loop μ-loop
 mul-at c = search needs
@@ -77,7 +77,7 @@ returns c =
     let a = c .before .before .before .before .before .before .before .args in
     let l = c .before .before .before .before .before .loop in
     let e = ap faultOf (c .enum-told2 .given .1) in
-    λ p of. e ∙ first-hit (tableBlockFault p (sumsOf (a .stamp)) (a .table .now)) (l .k) (blocks (a .table .now)) (l .inv .1 .1 p of) (omega arith) (sym (fault (c .before .before) p of) ∙ e)
+    λ p of. e ∙ first-hit (tableBlockFault p (sumsOf (a .checked .stamp)) (a .table .now)) (l .k) (blocks (a .table .now)) (l .inv .1 .1 p of) (omega arith) (sym (fault (c .before .before) p of) ∙ e)
 
 u16-at-requires : tie.Need-u16-at-requires Inv-loop μ-loop
 u16-at-requires c κs = search needs
@@ -95,14 +95,14 @@ loop-again c =
       omega arith,
       (
         rw (l .inv .1 .0, c .u16-at .ensures .0, part-to (a .table .now) (512 * l .k) 512) (short-more (a .table .now) (l .k)),
-        λ p of. first-more (tableBlockFault p (sumsOf (a .stamp)) (a .table .now)) (l .k) (blocks (a .table .now)) (l .inv .1 .1 p of) (omega arith) (sym (fault (c .before .before .before) p of) ∙ ap faultOf (c .before .enum-told .given .1)),
+        λ p of. first-more (tableBlockFault p (sumsOf (a .checked .stamp)) (a .table .now)) (l .k) (blocks (a .table .now)) (l .inv .1 .1 p of) (omega arith) (sym (fault (c .before .before .before) p of) ∙ ap faultOf (c .before .enum-told .given .1)),
       ),
     )
 
 returns-2 : tie.Need-returns-2 Inv-loop μ-loop
 returns-2 c =
     let a = c .before .before .before .args in
-    λ p of. first-done (tableBlockFault p (sumsOf (a .stamp)) (a .table .now)) (c .before .loop .k) (blocks (a .table .now)) (c .before .loop .inv .1 .1 p of) (c .loop-test .left)
+    λ p of. first-done (tableBlockFault p (sumsOf (a .checked .stamp)) (a .table .now)) (c .before .loop .k) (blocks (a .table .now)) (c .before .loop .inv .1 .1 p of) (c .loop-test .left)
 
 pub blocks-fault-spec : {M : Type 1} → statement M
 blocks-fault-spec =

@@ -36,7 +36,7 @@ returns-2 : tie.Need-returns-2
 unfolding tableFault tableLengthFault
 returns-2 c =
     let s = c .before .before .before .before .before .before .before .before in
-    rw (s .pre .1 .1) at (c .blocks-fault .ensures (policyOf (s .args .policy .now)) (c .before .before .shapes-of .ensures))
+    rw (s .pre .stamp-is) at (c .blocks-fault .ensures (policyOf (s .args .policy .now)) (c .before .before .shapes-of .ensures))
     ∙ sym (test-passes (refusal 11 0 0) _ (sized (c .before .before .before .before)))
 
 pub table-fault-spec : {M : Type 1} → statement M
