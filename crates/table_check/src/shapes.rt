@@ -1,7 +1,7 @@
 // The shapes of a policy's rules: what each asks of a context, prepared once for all the records of a table.
 ghost use mathlib.Core.Path.{_≡_};
 ghost use mathlib.Core.Option.{none};
-ghost use Prim.Native.Nat.{_<_};
+ghost use Prim.Native.Nat.{_*_, _<_};
 ghost use lib.ListN.{length};
 ghost use Rattle.format.specs.Layout.{blockBytes, mostLevels, mostRules};
 ghost use Rattle.format.specs.Rule.{ruleAt};

@@ -15,10 +15,10 @@ use Rattle.table_check.proofs.record.marks_fit.Statement.{statement}
 use Rattle.table_check.proofs.record.marks_fit.Tie as tie
 
 abbrev Inv-loop : tie.InvT-loop
-Inv-loop shapes rules low high marks rest₀ rest = (rest < 4294967296) × (allSet 32 rest (shapeFits shapes low high) ≡ allSet 32 (marks .0) (shapeFits shapes low high))
+Inv-loop shapes rules low high rest₀ rest = (rest < 4294967296) × (allSet 32 rest (shapeFits shapes low high) ≡ allSet 32 rest₀ (shapeFits shapes low high))
 
 abbrev μ-loop : tie.MeasureT-loop
-μ-loop shapes rules low high marks rest₀ rest = rest
+μ-loop shapes rules low high rest₀ rest = rest
 
 marks-within-requires : tie.Need-marks-within-requires Inv-loop μ-loop
 marks-within-requires c κs = search needs

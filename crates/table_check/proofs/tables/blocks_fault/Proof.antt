@@ -82,6 +82,9 @@ returns c =
 u16-at-requires : tie.Need-u16-at-requires Inv-loop μ-loop
 u16-at-requires c κs = search needs
 
+cast-short : tie.Need-cast-short Inv-loop μ-loop
+cast-short c = search needs
+
 add-k : tie.Need-add-k Inv-loop μ-loop
 add-k c = search needs
 
@@ -123,6 +126,7 @@ blocks-fault-spec =
     enum-told-2
     returns
     u16-at-requires
+    cast-short
     add-k
     loop-less
     loop-again
