@@ -48,8 +48,8 @@ pub record Shapes (p : Policy) (rules : ℕ) (shapes : List ℕ) : Type 0 where
 -- the levels 0 and 1 of a context, and 2 and 3, are as the shape of rule i wants them
 unfoldable pub shapeFits : List ℕ → ℕ → ℕ → ℕ → Bool
 shapeFits shapes low high i =
-    eqb (bitAnd low (getD shapes (4 * i + 2) 0)) (getD shapes (4 * i) 0)
-    && eqb (bitAnd high (getD shapes (4 * i + 3) 0)) (getD shapes (4 * i + 1) 0)
+    eqb (bitAnd low (getD shapes (shapeNumbers * i + 2) 0)) (getD shapes (shapeNumbers * i) 0)
+    && eqb (bitAnd high (getD shapes (shapeNumbers * i + 3) 0)) (getD shapes (shapeNumbers * i + 1) 0)
 
 -- each mark that is set is for a rule that there is
 unfoldable pub marksWithin : ℕ → ℕ → Bool

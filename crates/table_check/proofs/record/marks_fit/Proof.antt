@@ -43,8 +43,9 @@ shape-fits-requires c κs = low-bit c .0
 
 returns-2 : tie.Need-returns-2 Inv-loop μ-loop
 returns-2 c =
-    let a = c .before .before .before .before .before .before .args in
-    let l = c .before .before .before .loop in
+    let at = c .before .before .before in
+    let a = at .before .before .before .args in
+    let l = at .loop in
     let shape-fits = c .before .shape-fits in
     let low = low-bit (c .before .before) in
     let fails = lowest-fails 32 (l .rest) _ _ (shapeFits (a .shapes .now) (a .low) (a .high)) (low .1) (low .0) (sym (shape-fits .ensures) ∙ not-true (shape-fits .result) (c .if2 .taken)) in
@@ -58,8 +59,9 @@ loop-less c = let l = c .before .before .before .loop in omega (arith, and-le-r 
 
 loop-again : tie.Need-loop-again Inv-loop μ-loop
 loop-again c =
-    let a = c .before .before .before .before .before .before .args in
-    let l = c .before .before .before .loop in
+    let at = c .before .before .before in
+    let a = at .before .before .before .args in
+    let l = at .loop in
     let shape-fits = c .before .shape-fits in (
       omega (arith, and-le-l (l .rest) (l .rest - 1)),
       lowest-more 32 (l .rest) _ _ (shapeFits (a .shapes .now) (a .low) (a .high)) (low-bit (c .before .before) .1) (sym (shape-fits .ensures) ∙ not-false (shape-fits .result) (c .if2 .left)) ∙ l .inv .1,
@@ -67,11 +69,12 @@ loop-again c =
 
 returns-3 : tie.Need-returns-3 Inv-loop μ-loop
 returns-3 c =
-    let a = c .before .before .before .before .args in
-    let l = c .before .loop in
-    let within = c .before .before .before .marks-within in
+    let at = c .before in
+    let a = at .before .before .before .args in
+    let l = at .loop in
+    let within = at .before .before .marks-within in
     let all = sym (l .inv .1) ∙ (rw (← c .loop-test .left) at (none-set 32 (shapeFits (a .shapes .now) (a .low) (a .high)))) in
-    rw (fits-split (a .shapes .now) (a .rules) (a .low) (a .high) (a .marks .0), ← within .ensures, not-false (within .result) (c .before .before .if1 .left)) (sym all)
+    rw (fits-split (a .shapes .now) (a .rules) (a .low) (a .high) (a .marks .0), ← within .ensures, not-false (within .result) (at .before .if1 .left)) (sym all)
 
 pub marks-fit-spec : {M : Type 1} → statement M
 marks-fit-spec =
