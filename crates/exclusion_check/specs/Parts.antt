@@ -8,7 +8,7 @@ use lib.Dec.{eqb, leb}
 use Rattle.words.specs.Lists.{allBelow}
 use Rattle.words.specs.First.{unless, first}
 use Rattle.format.specs.Answer.{Refusal, refusal}
-use Rattle.format.specs.Layout.{highestRole}
+use Rattle.format.specs.Layout.{highestRole, mostExclusions, mostMembers}
 use Rattle.format.specs.Rule.{Exclusion, ruleAt, goodRoles, goodPrivileges, goodExclusionAt}
 
 -- member i of an exclusion of roles has a role that no member before it has
@@ -29,11 +29,11 @@ goodMembers x = (eqb (x .kind) 1 && goodRoles x) || (eqb (x .kind) 2 && goodPriv
 
 -- "2 <= m <= n <= 8", and the zero byte beside them
 abbrev pub goodSize : Exclusion → Bool
-goodSize x = eqb (x .pad) 0 && leb 2 (x .m) && leb (x .m) (x .n) && leb (x .n) 8
+goodSize x = eqb (x .pad) 0 && leb 2 (x .m) && leb (x .m) (x .n) && leb (x .n) mostMembers
 
 -- exclusion e of rule block k, and the first bad one
 abbrev pub exclusionFault : ℕ → List ℕ → ℕ → Option Refusal
 exclusionFault k b e = unless (goodExclusionAt (ruleAt b) e) (refusal 5 k (e + 1))
 
 abbrev pub exclusionsFault : ℕ → List ℕ → Option Refusal
-exclusionsFault k b = first (exclusionFault k b) 0 8
+exclusionsFault k b = first (exclusionFault k b) 0 mostExclusions

@@ -3,3 +3,4 @@ pub mod BlockFields
 pub mod PolicyBlock
 pub mod Sized
 pub mod Lengths
+pub mod Entry

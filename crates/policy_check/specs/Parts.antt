@@ -8,7 +8,7 @@ use Rattle.words.specs.Lists.{allBelow, anyBelow, sumBelow}
 use Rattle.words.specs.First.{_orElse_, unless, first}
 use Rattle.words.specs.Bytes.{byteAt}
 use Rattle.format.specs.Answer.{Refusal, refusal}
-use Rattle.format.specs.Layout.{mostRules, permissionKind, ruleKind}
+use Rattle.format.specs.Layout.{mostRules, mostLevels, permissionKind, ruleKind}
 use Rattle.format.specs.Block.{block, blocks, goodCheck, kind, number, total}
 use Rattle.format.specs.Rule.{Level, Step, Rule, privilegeAt, goodLevel, blankLevel, ruleFault}
 use Rattle.format.specs.Policy.{permissionAt, entries, goodPermission, permissionFault, policyBlockFault}
@@ -22,7 +22,7 @@ goodLevelOf depth level i = cond (ltb i depth) (goodLevel (level i)) (blankLevel
 
 -- the four levels of a rule
 abbrev pub goodLevels : Rule → Bool
-goodLevels r = allBelow 4 (goodLevelOf (r .depth) (r .level))
+goodLevels r = allBelow mostLevels (goodLevelOf (r .depth) (r .level))
 
 -- the step whose flag and whose privilege stand at two places
 abbrev pub stepAt : List ℕ → ℕ → ℕ → Step

@@ -2,6 +2,7 @@
 ghost use mathlib.Core.Path.{_≡_};
 ghost use Prim.Native.Nat.{_<_};
 ghost use lib.ListN.{length};
+ghost use Rattle.format.specs.Layout.{blockBytes};
 ghost use Rattle.format.specs.Block.{blocks};
 ghost use Rattle.format.specs.Policy.{policyFault, ruleCount};
 ghost use Rattle.format.specs.Code.{faultOf};
@@ -13,6 +14,15 @@ use crate::permission::permission_fault;
 use crate::rule::rule_fault;
 use fields::field::u16_at;
 use fields::field::u32_at;
+use fields::layout::BLOCK_BYTES;
+use fields::layout::KIND_AT;
+use fields::layout::MOST_RULES;
+use fields::layout::NUMBER_AT;
+use fields::layout::PERMISSION_KIND;
+use fields::layout::POLICY_BLOCKS;
+use fields::layout::RULE_KIND;
+use fields::layout::TOTAL_AT;
+use fields::layout::WORD_BYTES;
 use fields::tables::good_length;
 use format::answer::Fault;
 use format::answer::Refusal;
@@ -21,16 +31,18 @@ use sums::sum::sum_words;
 
 // The header of block k of `total`, where `seen` says that a permission block came before it.
 fn good_header(b: &[u8], k: u32, total: u32, seen: bool) -> bool
-    requires { ⌜ length (now b) ≡ 512 ⌝ }
+    requires { ⌜ length (now b) ≡ blockBytes ⌝ }
     ensures { λ r. ⌜ r ≡ goodHeader k total seen (now (b .entry)) ⌝ }
 {
-    let kind = u32_at(b, 0);
-    (u16_at(b, 4) == k) & (u16_at(b, 6) == total) & ((kind == 3) | ((kind == 1) & (k < 32) & !seen))
+    let kind = u32_at(b, KIND_AT);
+    (u16_at(b, NUMBER_AT) == k)
+        & (u16_at(b, TOTAL_AT) == total)
+        & ((kind == PERMISSION_KIND) | ((kind == RULE_KIND) & (k < MOST_RULES) & !seen))
 }
 
 // The fault of block k of `total`, numbers upwards.
 fn block_fault(b: &[u8], k: u32, total: u32, seen: bool) -> Fault
-    requires { ⌜ length (now b) ≡ 512 ⌝ }
+    requires { ⌜ length (now b) ≡ blockBytes ⌝ }
     ensures { λ r. ⌜ faultOf r ≡ blockFault k total seen (now (b .entry)) ⌝ }
 {
     if !good_check(b) {
@@ -47,7 +59,7 @@ fn block_fault(b: &[u8], k: u32, total: u32, seen: bool) -> Fault
             second: 0,
         });
     }
-    if u32_at(b, 0) == 1 {
+    if u32_at(b, KIND_AT) == RULE_KIND {
         rule_fault(b, k)
     } else {
         permission_fault(b, k)
@@ -59,17 +71,17 @@ fn blocks_fault(s: &[u8]) -> Fault
     requires { ⌜ blocks (now s) < 4294967296 ⌝ }
     ensures { λ r. ⌜ faultOf r ≡ blocksFault (now (s .entry)) ⌝ }
 {
-    let total = s.len() / 512;
+    let total = s.len() / BLOCK_BYTES;
     let mut seen = false;
     for k in 0..total {
-        let at = 512 * k;
-        let end = at + 512;
+        let at = BLOCK_BYTES * k;
+        let end = at + BLOCK_BYTES;
         let b = &s[at..end];
         let fault = block_fault(b, k as u32, total as u32, seen);
         let Fault::Nothing = fault else {
             return fault;
         };
-        seen = seen | (u32_at(b, 0) == 3);
+        seen = seen | (u32_at(b, KIND_AT) == PERMISSION_KIND);
     }
     Fault::Nothing
 }
@@ -78,7 +90,7 @@ fn blocks_fault(s: &[u8]) -> Fault
 pub fn policy_fault(s: &[u8]) -> Fault
     ensures { λ r. ⌜ faultOf r ≡ policyFault (now (s .entry)) ⌝ }
 {
-    if !good_length(s, 64) {
+    if !good_length(s, POLICY_BLOCKS) {
         return Fault::At(Refusal {
             number: 1,
             first: 0,
@@ -93,10 +105,10 @@ pub fn rule_count(s: &[u8]) -> u32
     requires { ⌜ blocks (now s) < 4294967296 ⌝ }
     ensures { λ r. ⌜ r ≡ ruleCount (now (s .entry)) ⌝ }
 {
-    let total = s.len() / 512;
+    let total = s.len() / BLOCK_BYTES;
     let mut rules = 0u32;
     for k in 0..total {
-        if u32_at(s, 512 * k) == 1 {
+        if u32_at(s, BLOCK_BYTES * k + KIND_AT) == RULE_KIND {
             rules += 1;
         }
     }
@@ -116,6 +128,6 @@ pub fn rules_and_stamp(s: &[u8]) -> Checked
 {
     Checked {
         rules: rule_count(s),
-        stamp: sum_words(s, 0, s.len() / 4),
+        stamp: sum_words(s, 0, s.len() / WORD_BYTES),
     }
 }

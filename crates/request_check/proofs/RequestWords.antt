@@ -127,6 +127,13 @@ module _ (w x y z : ℕ) where
 pub context-at : (s : List ℕ) (at : ℕ) → contextOf (part s at 28) ≡ part s (at + 12) 16
 context-at s at = part-part s at 28 12 16 (omega arith)
 
+module _ (s : List ℕ) (at i : ℕ) (four : i < 4) (bytes : (j : ℕ) → Byte (getD s j 0)) where
+  pub type-word : levelType (contextOf (part s at 28)) i ≡ u32At s (at + 12 + 4 * i) % 65536
+  type-word = rw (context-at s at) (level-type s bytes (at + 12) i four)
+
+  pub value-word : levelValue (contextOf (part s at 28)) i ≡ u32At s (at + 12 + 4 * i) / 65536
+  value-word = rw (context-at s at) (level-value s bytes (at + 12) i four)
+
 pub depth-at : (s : List ℕ) (at : ℕ) → ((i : ℕ) → Byte (getD s i 0))
     → depthOf (contextOf (part s at 28)) ≡ usedWords (u32At s (at + 12)) (u32At s (at + 12 + 4)) (u32At s (at + 12 + 8)) (u32At s (at + 12 + 12))
 depth-at s at bytes = rw (context-at s at) (depth-words s bytes (at + 12))

@@ -7,13 +7,17 @@ use Rattle.words.specs.Sums.{Sums, wrap, addWord}
 use Rattle.sums.specs.declared.sum.Sum.{Sum}
 use Rattle.sums.specs.declared.sum.Four.{Four}
 
+-- a word has 32 bits
+abbrev pub wordBytes : ℕ
+wordBytes = 4
+
 -- the state of the two sums
 abbrev pub sumsOf : Sum → Sums
 sumsOf s = record { a = s .a; b = s .b }
 
 -- word i of a byte string, from a place on
 unfoldable pub wordFrom : List ℕ → ℕ → ℕ → ℕ
-wordFrom s at i = u32At s (at + 4 * i)
+wordFrom s at i = u32At s (at + wordBytes * i)
 
 -- four states of the two sums, side by side
 pub record Fours : Type 0 where

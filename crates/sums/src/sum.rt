@@ -4,9 +4,19 @@ ghost use Prim.Native.Nat.{_+_, _*_, _<_, _≤_};
 ghost use lib.ListN.{length};
 ghost use Rattle.words.specs.Bytes.{u32At, part};
 ghost use Rattle.words.specs.Sums.{sums, words, addWord, wrap};
-ghost use Rattle.sums.specs.Code.{sumsOf, wordFrom, fourOf, fours, together as togetherOf};
+ghost use Rattle.sums.specs.Code.{wordBytes, sumsOf, wordFrom, fourOf, fours, together as togetherOf};
 use fields::field::u32_at;
+use fields::layout::WORD_BYTES;
 use std::num::wrapping_add_u32;
+
+// Where four words in a row stand behind the first, and where the next four begin.
+const SECOND_AT: usize = WORD_BYTES;
+
+const THIRD_AT: usize = 2 * WORD_BYTES;
+
+const FOURTH_AT: usize = 3 * WORD_BYTES;
+
+const FOUR_BYTES: usize = 4 * WORD_BYTES;
 
 // The state of the two sums.
 pub struct Sum {
@@ -38,7 +48,7 @@ pub struct Four {
 
 // One more word, as it stands in bytes.
 fn add_at(sum: Sum, s: &[u8], at: usize) -> Sum
-    requires { ⌜ at + 4 ≤ length (now s) ⌝ }
+    requires { ⌜ at + wordBytes ≤ length (now s) ⌝ }
     ensures { λ r. ⌜ sumsOf r ≡ addWord (sumsOf sum) (u32At (now (s .entry)) at) ⌝ }
 {
     sum.add(u32_at(s, at))
@@ -46,7 +56,7 @@ fn add_at(sum: Sum, s: &[u8], at: usize) -> Sum
 
 // The four states after n words each.
 fn sum_fours(s: &[u8], at: usize, n: usize) -> Four
-    requires { ⌜ at + 16 * n ≤ length (now s) ⌝ }
+    requires { ⌜ at + 4 * wordBytes * n ≤ length (now s) ⌝ }
     ensures { λ r. ⌜ fourOf r ≡ fours (wordFrom (now (s .entry)) at) n ⌝ }
 {
     let mut w = Sum { a: 0, b: 0 };
@@ -54,11 +64,11 @@ fn sum_fours(s: &[u8], at: usize, n: usize) -> Four
     let mut y = Sum { a: 0, b: 0 };
     let mut z = Sum { a: 0, b: 0 };
     for i in 0..n {
-        let from = at + 16 * i;
+        let from = at + FOUR_BYTES * i;
         w = add_at(w, s, from);
-        x = add_at(x, s, from + 4);
-        y = add_at(y, s, from + 8);
-        z = add_at(z, s, from + 12);
+        x = add_at(x, s, from + SECOND_AT);
+        y = add_at(y, s, from + THIRD_AT);
+        z = add_at(z, s, from + FOURTH_AT);
     }
     Four { w, x, y, z }
 }
@@ -100,13 +110,13 @@ fn together(four: Four, n: u64) -> Sum
 
 // The sums over n words from a place on: by fours, and the last ones by themselves.
 pub fn sum_words(s: &[u8], at: usize, n: usize) -> Sum
-    requires { ⌜ at + 4 * n ≤ length (now s) ⌝ }
-    ensures { λ r. ⌜ sumsOf r ≡ sums (words (part (now (s .entry)) at (4 * n))) ⌝ }
+    requires { ⌜ at + wordBytes * n ≤ length (now s) ⌝ }
+    ensures { λ r. ⌜ sumsOf r ≡ sums (words (part (now (s .entry)) at (wordBytes * n))) ⌝ }
 {
     let k = n / 4;
     let mut sum = together(sum_fours(s, at, k), k as u64);
     for i in 4 * k..n {
-        sum = sum.add(u32_at(s, at + 4 * i));
+        sum = sum.add(u32_at(s, at + WORD_BYTES * i));
     }
     sum
 }

@@ -23,12 +23,11 @@ use Rattle.format.specs.Request.{Request, user, roles, operation, target, conte
 use Rattle.format.specs.Rule.{Rule, Level, ruleAt, goodMark, goodLevel, goodSteps, goodRule, blankLevel as blankRuleLevel}
 use Rattle.format.specs.Fits.{levelFits, fits}
 use Rattle.format.specs.Policy.{Policy, policyFault, policyOf, ruleCount}
-use Rattle.format.specs.Table.{goodMarks, goodRecord}
+use Rattle.format.specs.Table.{goodMarks}
 use Rattle.format.specs.Place.{recordFrom}
 use Rattle.format_laws.proofs.AcceptedPolicy.{rule-good}
-use Rattle.request_check.specs.Levels.{fitsAt, fitsBelow}
 use Rattle.table_check.specs.Shapes.{levelWant, levelMask, paired, shapeWord, Shapes, shapeFits, markFits, marksFit}
-use Rattle.request_check.proofs.Levels.{type-word, value-word}
+use Rattle.request_check.proofs.RequestWords.{type-word, value-word}
 
 -- ---- numbers of two parts
 
@@ -146,6 +145,13 @@ front-used (suc n) d f h u = go (decLe d n) (λ k. front-used n d f k u) (λ k. 
     go (yes k) less all = omega (arith, less k)
     go (no k) less all = rw (u n (omega arith)) (omega (arith, all (omega arith)))
 
+-- the request has at level i what the rule asks there; and at its first n levels
+abbrev fitsAt : Rule → Request → ℕ → Bool
+fitsAt r q i = levelFits (r .level i) (levelType (contextOf q) i) (levelValue (contextOf q) i)
+
+abbrev fitsBelow : Rule → Request → ℕ → Bool
+fitsBelow r q n = allBelow n (fitsAt r q)
+
 module _ (r : Rule) (good : goodRule r ≡ true) where
   depth-few : r .depth ≤ 4
   unfolding goodRule
@@ -211,8 +217,8 @@ module _ (r : Rule) (good : goodRule r ≡ true) where
 abbrev pub levelWord : List ℕ → ℕ → ℕ → ℕ
 levelWord s at l = u32At s (at + 12 + 4 * l)
 
-pub two-levels : (s : List ℕ) (at from l : ℕ) → from ≡ at + 12 + 4 * l → u32At s from + 4294967296 * u32At s (from + 4) ≡ paired (levelWord s at) l
-two-levels s at from l e = ap₂ (λ (i j : ℕ). u32At s i + 4294967296 * u32At s j) e (omega arith)
+pub paired-levels : (s : List ℕ) (at from l : ℕ) → from ≡ at + 12 + 4 * l → u32At s from + 4294967296 * u32At s (from + 4) ≡ paired (levelWord s at) l
+paired-levels s at from l e = ap₂ (λ (i j : ℕ). u32At s i + 4294967296 * u32At s j) e (omega arith)
 
 module _ (p : Policy) (rules : ℕ) (shapes : List ℕ) (of : Shapes p rules shapes) (s : List ℕ) (at : ℕ) (bytes : (j : ℕ) → Byte (getD s j 0)) where
   word-small : (l : ℕ) → levelWord s at l < 4294967296
@@ -241,7 +247,7 @@ module _ (p : Policy) (rules : ℕ) (shapes : List ℕ) (of : Shapes p rules sha
             let m : (4 * i + n) % 4 ≡ n = omega arith in
             rw (d, m) at (of .word (4 * i + n) (omega arith))
 
-    marks-fit : marksFit shapes rules (paired (levelWord s at) 0) (paired (levelWord s at) 2) (u32At s (at + 28)) ≡ goodMarks p (recordFrom s at)
+    pub marks-fit : marksFit shapes rules (paired (levelWord s at) 0) (paired (levelWord s at) 2) (u32At s (at + 28)) ≡ goodMarks p (recordFrom s at)
     unfolding marksFit markFits goodMarks
     marks-fit =
         allBelow-same 32 (λ i. not (bit i m) || (ltb i rules && shapeFits shapes (paired (levelWord s at) 0) (paired (levelWord s at) 2) i))
@@ -255,20 +261,6 @@ module _ (p : Policy) (rules : ℕ) (shapes : List ℕ) (of : Shapes p rules sha
             → ltb i rules && shapeFits shapes (paired (levelWord s at) 0) (paired (levelWord s at) 2) i ≡ ltb i rules && fits (p .rule i) (part s at 28)
         go i true e = rw (mark-fits i (ltb-true i rules e))
         go i false e = rw e
-
-    pub record-fits : (u32At s (at + 28) ≡ 0 → ⊥) → marksFit shapes rules (paired (levelWord s at) 0) (paired (levelWord s at) 2) (u32At s (at + 28)) ≡ goodRecord p (recordFrom s at)
-    unfolding goodRecord
-    record-fits n = rw (marks-fit, good, ne-eqb (u32At s (at + 28)) 0 n, and-true (goodMarks p (recordFrom s at)))
-
-pub bad-request : (p : Policy) (s : List ℕ) (at : ℕ) → goodRequest (part s at 28) ≡ false → false ≡ goodRecord p (recordFrom s at)
-unfolding goodRecord
-bad-request p s at e = rw e
-
-pub no-marks : (p : Policy) (s : List ℕ) (at : ℕ) → u32At s (at + 28) ≡ 0 → false ≡ goodRecord p (recordFrom s at)
-unfolding goodRecord
-no-marks p s at e =
-    sym (ap (λ (m : ℕ). goodRequest (part s at 28) && goodMarks p (recordFrom s at) && not (eqb m 0)) e
-    ∙ and-false (goodRequest (part s at 28) && goodMarks p (recordFrom s at)))
 
 -- ---- the shapes of a policy, made number by number
 

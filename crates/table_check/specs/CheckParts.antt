@@ -10,7 +10,7 @@ use Rattle.words.specs.First.{_orElse_, unless, first}
 use Rattle.words.specs.Bytes.{zeroFrom}
 use Rattle.words.specs.Sums.{Sums}
 use Rattle.format.specs.Answer.{Refusal, refusal}
-use Rattle.format.specs.Layout.{tableKind, recordsAt, recordBytes, blockRecords}
+use Rattle.format.specs.Layout.{tableKind, spareAt, spareBytes, recordsAt, recordBytes, blockRecords}
 use Rattle.format.specs.Block.{block, kind, number, total, goodCheck}
 use Rattle.format.specs.Policy.{Policy}
 use Rattle.format.specs.Table.{count, recordAt, goodRecord, goodStamp}
@@ -33,7 +33,7 @@ goodTableHeading short k n b =
 unfoldable pub goodTableHead : Bool → ℕ → ℕ → List ℕ → Bool
 goodTableHead short k n b =
     goodTableHeading short k n b
-    && zeroFrom b 10 6
+    && zeroFrom b spareAt spareBytes
     && zeroFrom b (recordsAt + recordBytes * count b) (recordBytes * (blockRecords - count b))
 
 -- record i, and the first bad one

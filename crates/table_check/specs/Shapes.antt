@@ -10,11 +10,15 @@ use lib.Bits.{bitAnd}
 use lib.Dec.{eqb, ltb}
 use Rattle.words.specs.Lists.{allBelow}
 use Rattle.words.specs.Bytes.{bit}
-use Rattle.format.specs.Layout.{mostRules}
+use Rattle.format.specs.Layout.{mostRules, mostLevels}
 use Rattle.format.specs.Rule.{Rule, goodRule}
 use Rattle.format.specs.Policy.{Policy}
 
 -- ---- the shape of a rule
+
+-- a shape is four numbers: two wanted, and their two masks
+abbrev pub shapeNumbers : ℕ
+shapeNumbers = 4
 
 -- the word that a context has at level l, as far as the rule asks
 unfoldable pub levelWant : Rule → ℕ → ℕ
@@ -35,17 +39,17 @@ shapeWord r n = cond (ltb n 2) (paired (levelWant r) (2 * n)) (paired (levelMask
 -- the numbers are the shapes of a policy's rules, four a rule, and the rules are as the check of a policy leaves them
 pub record Shapes (p : Policy) (rules : ℕ) (shapes : List ℕ) : Type 0 where
   pub count : rules ≡ p .rules
-  pub word : (k : ℕ) → k < 4 * rules → getD shapes k 0 ≡ shapeWord (p .rule (k / 4)) (k % 4)
+  pub word : (k : ℕ) → k < shapeNumbers * rules → getD shapes k 0 ≡ shapeWord (p .rule (k / shapeNumbers)) (k % shapeNumbers)
   pub good : (i : ℕ) → i < rules → goodRule (p .rule i) ≡ true
-  pub narrow : (i l : ℕ) → l < 4 → (p .rule i .level l .type < 65536) × (p .rule i .level l .value < 65536)
+  pub narrow : (i l : ℕ) → l < mostLevels → (p .rule i .level l .type < 65536) × (p .rule i .level l .value < 65536)
 
 -- ---- a context beside them
 
 -- the levels 0 and 1 of a context, and 2 and 3, are as the shape of rule i wants them
 unfoldable pub shapeFits : List ℕ → ℕ → ℕ → ℕ → Bool
 shapeFits shapes low high i =
-    eqb (bitAnd low (getD shapes (4 * i + 2) 0)) (getD shapes (4 * i) 0)
-    && eqb (bitAnd high (getD shapes (4 * i + 3) 0)) (getD shapes (4 * i + 1) 0)
+    eqb (bitAnd low (getD shapes (shapeNumbers * i + 2) 0)) (getD shapes (shapeNumbers * i) 0)
+    && eqb (bitAnd high (getD shapes (shapeNumbers * i + 3) 0)) (getD shapes (shapeNumbers * i + 1) 0)
 
 -- each mark that is set is for a rule that there is
 unfoldable pub marksWithin : ℕ → ℕ → Bool

@@ -54,7 +54,7 @@ loop-less c = search needs
 
 loop-again : tie.Need-loop-again Inv-loop μ-loop
 unfolding allBelow
-loop-again c = (omega arith, rw (add-one (c .before .before .loop .j)) (cc))
+loop-again c = (omega arith, rw (add-one (c .before .before .before .before .loop .j)) (cc))
 
 returns : tie.Need-returns Inv-loop μ-loop
 returns c = let e : c .before .loop .j ≡ c .before .before .before .before .args .i = omega arith in rw e at (c .before .loop .inv .1)

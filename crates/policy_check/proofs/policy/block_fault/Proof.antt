@@ -38,10 +38,16 @@ permission-fault-requires : tie.Need-permission-fault-requires
 permission-fault-requires c κs = search needs
 
 returns-3 : tie.Need-returns-3
-returns-3 c = c .rule-fault .ensures ∙ rule-block _ _ _ _ (checked (c .before .before .before .before .before)) (headed (c .before .before .before)) (sym (c .before .before .u32-at .ensures) ∙ c .before .if3 .taken)
+returns-3 c =
+    let read = c .before .before in
+    let two = read .before in
+    c .rule-fault .ensures ∙ rule-block _ _ _ _ (checked (two .before .before)) (headed two) (sym (read .u32-at .ensures) ∙ c .before .if3 .taken)
 
 returns-4 : tie.Need-returns-4
-returns-4 c = c .permission-fault .ensures ∙ permission-block _ _ _ _ (checked (c .before .before .before .before .before)) (headed (c .before .before .before)) (λ e. c .before .if3 .left (c .before .before .u32-at .ensures ∙ e))
+returns-4 c =
+    let read = c .before .before in
+    let two = read .before in
+    c .permission-fault .ensures ∙ permission-block _ _ _ _ (checked (two .before .before)) (headed two) (λ e. c .before .if3 .left (read .u32-at .ensures ∙ e))
 
 pub block-fault-spec : {M : Type 1} → statement M
 block-fault-spec =

@@ -1,7 +1,8 @@
 -- `crate::policy::blocks_fault` meets its contract.
 -- Assumes nothing.
-use Prim.Native.Nat.{_-_, _≤_}
+use Prim.Native.Nat.{ℕ, _-_, _≤_}
 use mathlib.Core.Path.{_≡_, refl, sym, ap, _∙_}
+use mathlib.Core.List.{List}
 use native.Mathlib.Omega.{arith}
 use lib.ListN.{length-take, length-drop}
 use borrow.Author.Needs.{needs}
@@ -21,12 +22,19 @@ Inv-loop s total seen₀ k₀ seen k = (k ≤ total) × ((seen ≡ permissionBef
 abbrev μ-loop : tie.MeasureT-loop
 μ-loop s total seen₀ k₀ seen k = total - k
 
+-- where the loop stands after the call of `block_fault`, and the image
+abbrev turn : tie.After-block-fault Inv-loop μ-loop → tie.At-loop Inv-loop μ-loop
+turn c = c .before .before .before
+
+abbrev image : tie.At-loop Inv-loop μ-loop → List ℕ
+image c = c .before .before .args .s .now
+
 -- what `block_fault` answers is the fault of block k of the image
-fault : (c : tie.After-block-fault Inv-loop μ-loop)
-    → faultOf (c .block-fault .result) ≡ policyBlockFault (c .before .before .before .before .before .args .s .now) (c .before .before .before .loop .k)
+fault : (c : tie.After-block-fault Inv-loop μ-loop) → faultOf (c .block-fault .result) ≡ policyBlockFault (image (turn c)) (turn c .loop .k)
 fault c =
-    let s = c .before .before .before .before .before .args .s .now in
-    let l = c .before .before .before .loop in
+    let at = c .before .before .before in
+    let s = at .before .before .args .s .now in
+    let l = at .loop in
     (rw (block-part s (l .k), l .inv .1 .0) at (c .block-fault .ensures)) ∙ fault-of-block s (l .k)
 
 loop-holds : tie.Need-loop-holds Inv-loop μ-loop
@@ -65,9 +73,10 @@ enum-told-2 c = search needs
 
 returns : tie.Need-returns Inv-loop μ-loop
 returns c =
-    let l = c .before .before .before .before .before .loop in
+    let called = c .before .before in
+    let l = turn called .loop in
     let e = ap faultOf (c .enum-told2 .given .1) in
-    e ∙ first-hit _ (l .k) _ (l .inv .1 .1) (omega arith) (sym (fault (c .before .before)) ∙ e)
+    e ∙ first-hit _ (l .k) _ (l .inv .1 .1) (omega arith) (sym (fault called) ∙ e)
 
 u32-at-requires : tie.Need-u32-at-requires Inv-loop μ-loop
 u32-at-requires c κs = search needs
@@ -80,12 +89,13 @@ loop-less c = search needs
 
 loop-again : tie.Need-loop-again Inv-loop μ-loop
 loop-again c =
-    let s = c .before .before .before .before .before .before .before .before .args .s .now in
-    let l = c .before .before .before .before .before .before .loop in (
+    let called = c .before .before .before in
+    let s = image (turn called) in
+    let l = turn called .loop in (
       omega arith,
       (
         rw (l .inv .1 .0, c .u32-at .ensures, block-part s (l .k)) (permission-more s (l .k)),
-        first-more _ (l .k) _ (l .inv .1 .1) (omega arith) (sym (fault (c .before .before .before)) ∙ ap faultOf (c .before .enum-told .given .1)),
+        first-more _ (l .k) _ (l .inv .1 .1) (omega arith) (sym (fault called) ∙ ap faultOf (c .before .enum-told .given .1)),
       ),
     )
 

@@ -27,6 +27,9 @@ loop-holds c = (omega arith, (omega arith, refl))
 mul-u32-at : tie.Need-mul-u32-at Inv-loop μ-loop
 mul-u32-at c = search needs
 
+add-u32-at : tie.Need-add-u32-at Inv-loop μ-loop
+add-u32-at c = search needs
+
 u32-at-requires : tie.Need-u32-at-requires Inv-loop μ-loop
 u32-at-requires c κs = search needs
 
@@ -61,6 +64,7 @@ rule-count-spec =
     μ-loop
     loop-holds
     mul-u32-at
+    add-u32-at
     u32-at-requires
     add-rules
     add-k

@@ -34,8 +34,9 @@ good-levels-requires c κs = search needs
 
 returns : tie.Need-returns
 returns c =
-    let a = c .before .before .before .before .before .before .args in
-    let bytes : (i : ℕ) → Byte (getD (a .s .now) i 0) = λ i. c .before .before .before .before .before .shared-slice-known .given i .fits in
+    let known = c .before .before .before .before .before in
+    let a = known .before .args in
+    let bytes : (i : ℕ) → Byte (getD (a .s .now) i 0) = λ i. known .shared-slice-known .given i .fits in
     cc (context-words (a .s .now) bytes (a .at))
 
 pub good-context-spec : {M : Type 1} → statement M

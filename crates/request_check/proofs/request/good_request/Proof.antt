@@ -7,6 +7,7 @@ use lib.Dec.{eqb}
 use borrow.Author.Tests.{eq-eqb, ne-eqb, not-true, not-false}
 use borrow.Author.Needs.{needs}
 use Rattle.words.specs.Bytes.{part}
+use Rattle.format.specs.Layout.{requestBytes}
 use Rattle.format.specs.Request.{Request, user, roles, contextOf, goodContext, goodRequest}
 use Rattle.format.specs.Rule.{Privilege, fullPrivilege}
 use Rattle.fields.specs.Code.{doneBy}
@@ -28,45 +29,50 @@ module _ (q : Request) where
   the-rest : (user q ≡ 0 → ⊥) → (roles q ≡ 0 → ⊥) → fullPrivilege (doneBy q) ≡ true → goodContext (contextOf q) ≡ goodRequest q
   the-rest u r e = sym (request-parts q ∙ rw (ne-eqb (user q) 0 u, ne-eqb (roles q) 0 r, e))
 
+-- the call, seen from behind each test that was passed
+abbrev call₁ : tie.Else1 → tie.Start
+call₁ c = c .before .before .before .before
+
+abbrev call₂ : tie.Else2 → tie.Start
+call₂ c = call₁ (c .before .before .before)
+
+abbrev asked : tie.Start → Request
+asked c = part (c .args .s .now) (c .args .at) requestBytes
+
 user-requires : tie.Need-user-requires
 user-requires c κs = search needs
 
 returns : tie.Need-returns
-returns c =
-    let a = c .before .before .before .before .args in
-    no-user (part (a .s .now) (a .at) 28) (sym (c .before .before .user .ensures) ∙ c .if1 .taken)
+returns c = no-user (asked (c .before .before .before .before)) (sym (c .before .before .user .ensures) ∙ c .if1 .taken)
 
 roles-requires : tie.Need-roles-requires
 roles-requires c κs = search needs
 
-some-user : (c : tie.Else1) → let a = c .before .before .before .before .args in user (part (a .s .now) (a .at) 28) ≡ 0 → ⊥
+some-user : (c : tie.Else1) → user (asked (call₁ c)) ≡ 0 → ⊥
 some-user c e = c .if1 .left (c .before .before .user .ensures ∙ e)
 
 returns-2 : tie.Need-returns-2
 returns-2 c =
-    let a = c .before .before .before .before .before .before .before .args in
-    no-roles (part (a .s .now) (a .at) 28) (some-user (c .before .before .before)) (sym (c .before .before .roles .ensures) ∙ c .if2 .taken)
+    let one = c .before .before .before in
+    no-roles (asked (call₁ one)) (some-user one) (sym (c .before .before .roles .ensures) ∙ c .if2 .taken)
 
 privilege-requires : tie.Need-privilege-requires
 privilege-requires c κs = search needs
 
-some-roles : (c : tie.Else2) → let a = c .before .before .before .before .before .before .before .args in roles (part (a .s .now) (a .at) 28) ≡ 0 → ⊥
+some-roles : (c : tie.Else2) → roles (asked (call₂ c)) ≡ 0 → ⊥
 some-roles c e = c .if2 .left (c .before .before .roles .ensures ∙ e)
 
 full-requires : tie.Need-full-requires
 full-requires c κs = search needs
 
 -- what the call says of the privilege that was read
-full-is : (c : tie.After-full)
-    → let a = c .before .before .before .before .before .before .before .before .before .args in
-    fullPrivilege (doneBy (part (a .s .now) (a .at) 28)) ≡ c .full .result
+full-is : (c : tie.After-full) → fullPrivilege (doneBy (asked (call₂ (c .before .before)))) ≡ c .full .result
 full-is c = sym (c .full .ensures ∙ ap (λ (p : Privilege). fullPrivilege p) (c .before .privilege .ensures))
 
 returns-3 : tie.Need-returns-3
 returns-3 c =
-    let a = c .before .before .before .before .before .before .before .before .before .before .args in
     let two = c .before .before .before in
-    no-privilege (part (a .s .now) (a .at) 28) (some-user (two .before .before .before)) (some-roles two)
+    no-privilege (asked (call₂ two)) (some-user (two .before .before .before)) (some-roles two)
     (full-is (c .before) ∙ not-true (c .before .full .result) (c .if3 .taken))
 
 add-good-context : tie.Need-add-good-context
@@ -77,12 +83,13 @@ good-context-requires c κs = search needs
 
 returns-4 : tie.Need-returns-4
 returns-4 c =
-    let a = c .before .before .before .before .before .before .before .before .before .before .before .args in
-    let two = c .before .before .before .before in
+    let three = c .before in
+    let two = three .before .before .before in
+    let a = call₂ two .args in
     c .good-context .ensures
     ∙ sym (ap (λ (t : Request). goodContext t) (context-at (a .s .now) (a .at)))
-    ∙ the-rest (part (a .s .now) (a .at) 28) (some-user (two .before .before .before)) (some-roles two)
-    (full-is (c .before .before) ∙ not-false (c .before .before .full .result) (c .before .if3 .left))
+    ∙ the-rest (asked (call₂ two)) (some-user (two .before .before .before)) (some-roles two)
+    (full-is (three .before) ∙ not-false (three .before .full .result) (three .if3 .left))
 
 pub good-request-spec : {M : Type 1} → statement M
 good-request-spec =

@@ -15,10 +15,10 @@ use Rattle.table_check.proofs.record.marks_fit.Statement.{statement}
 use Rattle.table_check.proofs.record.marks_fit.Tie as tie
 
 abbrev Inv-loop : tie.InvT-loop
-Inv-loop shapes rules low high marks rest₀ rest = (rest < 4294967296) × (allSet 32 rest (shapeFits shapes low high) ≡ allSet 32 marks (shapeFits shapes low high))
+Inv-loop shapes rules low high rest₀ rest = (rest < 4294967296) × (allSet 32 rest (shapeFits shapes low high) ≡ allSet 32 rest₀ (shapeFits shapes low high))
 
 abbrev μ-loop : tie.MeasureT-loop
-μ-loop shapes rules low high marks rest₀ rest = rest
+μ-loop shapes rules low high rest₀ rest = rest
 
 marks-within-requires : tie.Need-marks-within-requires Inv-loop μ-loop
 marks-within-requires c κs = search needs
@@ -27,7 +27,7 @@ returns : tie.Need-returns Inv-loop μ-loop
 returns c =
     let a = c .before .before .args in
     let within = c .before .marks-within in
-    rw (fits-split (a .shapes .now) (a .rules) (a .low) (a .high) (a .marks), ← within .ensures, not-true (within .result) (c .if1 .taken))
+    rw (fits-split (a .shapes .now) (a .rules) (a .low) (a .high) (a .marks .0), ← within .ensures, not-true (within .result) (c .if1 .taken))
 
 loop-holds : tie.Need-loop-holds Inv-loop μ-loop
 loop-holds c = (omega arith, refl)
@@ -43,12 +43,13 @@ shape-fits-requires c κs = low-bit c .0
 
 returns-2 : tie.Need-returns-2 Inv-loop μ-loop
 returns-2 c =
-    let a = c .before .before .before .before .before .before .args in
-    let l = c .before .before .before .loop in
+    let at = c .before .before .before in
+    let a = at .before .before .before .args in
+    let l = at .loop in
     let shape-fits = c .before .shape-fits in
     let low = low-bit (c .before .before) in
     let fails = lowest-fails 32 (l .rest) _ _ (shapeFits (a .shapes .now) (a .low) (a .high)) (low .1) (low .0) (sym (shape-fits .ensures) ∙ not-true (shape-fits .result) (c .if2 .taken)) in
-    rw (fits-split (a .shapes .now) (a .rules) (a .low) (a .high) (a .marks), ← l .inv .1, fails) (sym (and-false (marksWithin (a .rules) (a .marks))))
+    rw (fits-split (a .shapes .now) (a .rules) (a .low) (a .high) (a .marks .0), ← l .inv .1, fails) (sym (and-false (marksWithin (a .rules) (a .marks .0))))
 
 sub-rest : tie.Need-sub-rest Inv-loop μ-loop
 sub-rest c = search needs
@@ -58,8 +59,9 @@ loop-less c = let l = c .before .before .before .loop in omega (arith, and-le-r 
 
 loop-again : tie.Need-loop-again Inv-loop μ-loop
 loop-again c =
-    let a = c .before .before .before .before .before .before .args in
-    let l = c .before .before .before .loop in
+    let at = c .before .before .before in
+    let a = at .before .before .before .args in
+    let l = at .loop in
     let shape-fits = c .before .shape-fits in (
       omega (arith, and-le-l (l .rest) (l .rest - 1)),
       lowest-more 32 (l .rest) _ _ (shapeFits (a .shapes .now) (a .low) (a .high)) (low-bit (c .before .before) .1) (sym (shape-fits .ensures) ∙ not-false (shape-fits .result) (c .if2 .left)) ∙ l .inv .1,
@@ -67,11 +69,12 @@ loop-again c =
 
 returns-3 : tie.Need-returns-3 Inv-loop μ-loop
 returns-3 c =
-    let a = c .before .before .before .before .args in
-    let l = c .before .loop in
-    let within = c .before .before .before .marks-within in
+    let at = c .before in
+    let a = at .before .before .before .args in
+    let l = at .loop in
+    let within = at .before .before .marks-within in
     let all = sym (l .inv .1) ∙ (rw (← c .loop-test .left) at (none-set 32 (shapeFits (a .shapes .now) (a .low) (a .high)))) in
-    rw (fits-split (a .shapes .now) (a .rules) (a .low) (a .high) (a .marks), ← within .ensures, not-false (within .result) (c .before .before .if1 .left)) (sym all)
+    rw (fits-split (a .shapes .now) (a .rules) (a .low) (a .high) (a .marks .0), ← within .ensures, not-false (within .result) (at .before .if1 .left)) (sym all)
 
 pub marks-fit-spec : {M : Type 1} → statement M
 marks-fit-spec =

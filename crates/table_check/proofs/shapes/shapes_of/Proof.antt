@@ -19,6 +19,10 @@ Inv-loop policy rules out₀ n k₀ out k = (k ≤ n) × ((length out ≡ 128) �
 abbrev μ-loop : tie.MeasureT-loop
 μ-loop policy rules out₀ n k₀ out k = n - k
 
+-- what the function was called with, seen from the loop
+abbrev call : tie.At-loop Inv-loop μ-loop → tie.Start Inv-loop μ-loop
+call c = c .before .before
+
 mul-n : tie.Need-mul-n Inv-loop μ-loop
 mul-n c = search needs
 
@@ -38,20 +42,20 @@ part-shape-word-start : tie.Need-part-shape-word-start Inv-loop μ-loop
 part-shape-word-start c = search needs
 
 part-shape-word-end : tie.Need-part-shape-word-end Inv-loop μ-loop
-part-shape-word-end c = omega (arith, rules-few (c .before .before .before .args .policy .now) (c .before .before .before .pre .0 .0))
+part-shape-word-end c = let s = call (c .before) in omega (arith, rules-few (s .args .policy .now) (s .pre .0 .0))
 
 shape-word-requires : tie.Need-shape-word-requires Inv-loop μ-loop
 shape-word-requires c κs =
-    let a = c .before .before .before .before .args in
-    let k = c .before .before .loop .k in
-    rw (part-to (a .policy .now) (512 * (k / 4)) 512)
-    (part-length (a .policy .now) (512 * (k / 4)) 512 (omega (arith, rules-few (a .policy .now) (c .before .before .before .before .pre .0 .0))), omega arith)
+    let at = c .before .before in
+    let policy = call at .args .policy .now in
+    let from = 512 * (at .loop .k / 4) in
+    rw (part-to policy from 512) (part-length policy from 512 (omega (arith, rules-few policy (call at .pre .0 .0))), omega arith)
 
 mul-out : tie.Need-mul-out Inv-loop μ-loop
 mul-out c = search needs
 
 element-write-out : tie.Need-element-write-out Inv-loop μ-loop
-element-write-out c = omega (arith, rules-most (c .before .before .before .before .before .args .policy .now) (c .before .before .before .before .before .pre .0 .0))
+element-write-out c = let s = call (c .before .before .before) in omega (arith, rules-most (s .args .policy .now) (s .pre .0 .0))
 
 add-k : tie.Need-add-k Inv-loop μ-loop
 add-k c = search needs
@@ -62,9 +66,10 @@ loop-less c = search needs
 loop-again : tie.Need-loop-again Inv-loop μ-loop
 unfolding policyOf
 loop-again c =
-    let a = c .before .before .before .before .before .args in
-    let p = c .before .before .before .before .before .pre in
-    let l = c .before .before .before .loop in (
+    let at = c .before .before .before in
+    let a = call at .args in
+    let p = call at .pre in
+    let l = at .loop in (
       omega arith,
       (
         length-set (l .out) (l .k) _ ∙ l .inv .1 .0,
@@ -75,10 +80,11 @@ loop-again c =
 
 returns : tie.Need-returns Inv-loop μ-loop
 returns c =
-    let a = c .before .before .before .args in
-    let p = c .before .before .before .pre in
-    let l = c .before .loop in
-    let bytes : (j : ℕ) → Byte (getD (a .policy .now) j 0) = λ j. c .before .before .shared-slice-known .given j .fits in
+    let at = c .before in
+    let a = call at .args in
+    let p = call at .pre in
+    let l = at .loop in
+    let bytes : (j : ℕ) → Byte (getD (a .policy .now) j 0) = λ j. at .before .shared-slice-known .given j .fits in
     shapes-made (a .policy .now) (p .0 .0) bytes (a .rules) (l .out) (p .0 .1) (λ j h. l .inv .1 .1 j (omega arith))
 
 pub shapes-of-spec : {M : Type 1} → statement M

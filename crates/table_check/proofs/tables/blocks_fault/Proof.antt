@@ -21,25 +21,33 @@ use Rattle.table_check.proofs.tables.blocks_fault.Statement.{statement}
 use Rattle.table_check.proofs.tables.blocks_fault.Tie as tie
 
 abbrev Inv-loop : tie.InvT-loop
-Inv-loop shapes rules stamp table n short₀ k₀ short k = (k ≤ n) × ((short ≡ shortBefore table k) × ((p : Policy) → Shapes p rules shapes → first (tableBlockFault p (sumsOf stamp) table) k (n - k) ≡ first (tableBlockFault p (sumsOf stamp) table) 0 n))
+Inv-loop shapes checked table n short₀ k₀ short k = (k ≤ n) × ((short ≡ shortBefore table k) × ((p : Policy) → Shapes p (checked .rules) shapes → first (tableBlockFault p (sumsOf (checked .stamp)) table) k (n - k) ≡ first (tableBlockFault p (sumsOf (checked .stamp)) table) 0 n))
 
 abbrev μ-loop : tie.MeasureT-loop
-μ-loop shapes rules stamp table n short₀ k₀ short k = n - k
+μ-loop shapes checked table n short₀ k₀ short k = n - k
+
+-- where the loop stands after the call of `block_fault`, and what the function was called with
+abbrev turn : tie.After-block-fault Inv-loop μ-loop → tie.At-loop Inv-loop μ-loop
+turn c = c .before .before .before
+
+abbrev call : tie.At-loop Inv-loop μ-loop → tie.Start Inv-loop μ-loop
+call c = c .before .before
 
 -- what `block_fault` answers is the fault of block k of the table
 fault : (c : tie.After-block-fault Inv-loop μ-loop) →
-    let a = c .before .before .before .before .before .args in
-    (p : Policy) → Shapes p (a .rules) (a .shapes .now) → faultOf (c .block-fault .result) ≡ tableBlockFault p (sumsOf (a .stamp)) (a .table .now) (c .before .before .before .loop .k)
+    let a = call (turn c) .args in
+    (p : Policy) → Shapes p (a .checked .rules) (a .shapes .now) → faultOf (c .block-fault .result) ≡ tableBlockFault p (sumsOf (a .checked .stamp)) (a .table .now) (turn c .loop .k)
 fault c p of =
-    let a = c .before .before .before .before .before .args in
-    let l = c .before .before .before .loop in
-    let e : faultOf (c .block-fault .result) ≡ tableFaultIn p (sumsOf (a .stamp)) (shortBefore (a .table .now) (l .k)) (l .k) (blocks (a .table .now)) (block (a .table .now) (l .k)) =
+    let at = c .before .before .before in
+    let a = at .before .before .args in
+    let l = at .loop in
+    let e : faultOf (c .block-fault .result) ≡ tableFaultIn p (sumsOf (a .checked .stamp)) (shortBefore (a .table .now) (l .k)) (l .k) (blocks (a .table .now)) (block (a .table .now) (l .k)) =
     rw (part-to (a .table .now) (512 * l .k) 512, l .inv .1 .0) at (c .block-fault .ensures p of) in
-    e ∙ fault-of-block (a .table .now) (l .k) p (sumsOf (a .stamp))
+    e ∙ fault-of-block (a .table .now) (l .k) p (sumsOf (a .checked .stamp))
 
 loop-holds : tie.Need-loop-holds Inv-loop μ-loop
 unfolding anyBelow
-loop-holds c = let a = c .before .args in (omega arith, (refl, λ p of. first-start (tableBlockFault p (sumsOf (a .stamp)) (a .table .now)) (blocks (a .table .now))))
+loop-holds c = let a = c .before .args in (omega arith, (refl, λ p of. first-start (tableBlockFault p (sumsOf (a .checked .stamp)) (a .table .now)) (blocks (a .table .now))))
 
 mul-at : tie.Need-mul-at Inv-loop μ-loop
 mul-at c = search needs
@@ -74,13 +82,17 @@ enum-told-2 c = search needs
 
 returns : tie.Need-returns Inv-loop μ-loop
 returns c =
-    let a = c .before .before .before .before .before .before .before .args in
-    let l = c .before .before .before .before .before .loop in
+    let called = c .before .before in
+    let a = call (turn called) .args in
+    let l = turn called .loop in
     let e = ap faultOf (c .enum-told2 .given .1) in
-    λ p of. e ∙ first-hit (tableBlockFault p (sumsOf (a .stamp)) (a .table .now)) (l .k) (blocks (a .table .now)) (l .inv .1 .1 p of) (omega arith) (sym (fault (c .before .before) p of) ∙ e)
+    λ p of. e ∙ first-hit (tableBlockFault p (sumsOf (a .checked .stamp)) (a .table .now)) (l .k) (blocks (a .table .now)) (l .inv .1 .1 p of) (omega arith) (sym (fault called p of) ∙ e)
 
 u16-at-requires : tie.Need-u16-at-requires Inv-loop μ-loop
 u16-at-requires c κs = search needs
+
+cast-short : tie.Need-cast-short Inv-loop μ-loop
+cast-short c = search needs
 
 add-k : tie.Need-add-k Inv-loop μ-loop
 add-k c = search needs
@@ -90,19 +102,20 @@ loop-less c = search needs
 
 loop-again : tie.Need-loop-again Inv-loop μ-loop
 loop-again c =
-    let a = c .before .before .before .before .before .before .before .before .args in
-    let l = c .before .before .before .before .before .before .loop in (
+    let called = c .before .before .before in
+    let a = call (turn called) .args in
+    let l = turn called .loop in (
       omega arith,
       (
         rw (l .inv .1 .0, c .u16-at .ensures .0, part-to (a .table .now) (512 * l .k) 512) (short-more (a .table .now) (l .k)),
-        λ p of. first-more (tableBlockFault p (sumsOf (a .stamp)) (a .table .now)) (l .k) (blocks (a .table .now)) (l .inv .1 .1 p of) (omega arith) (sym (fault (c .before .before .before) p of) ∙ ap faultOf (c .before .enum-told .given .1)),
+        λ p of. first-more (tableBlockFault p (sumsOf (a .checked .stamp)) (a .table .now)) (l .k) (blocks (a .table .now)) (l .inv .1 .1 p of) (omega arith) (sym (fault called p of) ∙ ap faultOf (c .before .enum-told .given .1)),
       ),
     )
 
 returns-2 : tie.Need-returns-2 Inv-loop μ-loop
 returns-2 c =
-    let a = c .before .before .before .args in
-    λ p of. first-done (tableBlockFault p (sumsOf (a .stamp)) (a .table .now)) (c .before .loop .k) (blocks (a .table .now)) (c .before .loop .inv .1 .1 p of) (c .loop-test .left)
+    let a = call (c .before) .args in
+    λ p of. first-done (tableBlockFault p (sumsOf (a .checked .stamp)) (a .table .now)) (c .before .loop .k) (blocks (a .table .now)) (c .before .loop .inv .1 .1 p of) (c .loop-test .left)
 
 pub blocks-fault-spec : {M : Type 1} → statement M
 blocks-fault-spec =
@@ -123,6 +136,7 @@ blocks-fault-spec =
     enum-told-2
     returns
     u16-at-requires
+    cast-short
     add-k
     loop-less
     loop-again

@@ -15,9 +15,9 @@ heading c = sym (c .good-heading .ensures)
 
 few : (c : tie.After-u16-at) → c .u16-at .result ≤ 15
 few c =
-    let a = c .before .before .before .before .args in
-    rw (c .u16-at .ensures .0)
-    (few-records (a .short) (a .k) (a .n) (a .b .now) (heading (c .before .before) ∙ not-false (c .before .before .good-heading .result) (c .before .if1 .left)))
+    let told = c .before .before in
+    let a = told .before .before .args in
+    rw (c .u16-at .ensures .0) (few-records (a .short) (a .k) (a .n) (a .b .now) (heading told ∙ not-false (told .good-heading .result) (c .before .if1 .left)))
 
 good-heading-requires : tie.Need-good-heading-requires
 good-heading-requires c κs = search needs
@@ -53,8 +53,10 @@ zero-from-requires-2 c κs = omega (arith, few (c .before))
 returns-2 : tie.Need-returns-2
 unfolding goodTableHead
 returns-2 c =
-    rw (heading (c .before .before .before .before) ∙ not-false (c .before .before .before .before .good-heading .result) (c .before .before .before .if1 .left))
-    (rw (c .before .zero-from .ensures, c .zero-from2 .ensures, c .before .before .u16-at .ensures .0))
+    let counted = c .before .before in
+    let passed = counted .before in
+    rw (heading (passed .before) ∙ not-false (passed .before .good-heading .result) (passed .if1 .left))
+    (rw (c .before .zero-from .ensures, c .zero-from2 .ensures, counted .u16-at .ensures .0))
 
 pub good-header-spec : {M : Type 1} → statement M
 good-header-spec =

@@ -17,6 +17,9 @@ u16-at-requires-2 c κs = search needs
 u16-at-requires-3 : tie.Need-u16-at-requires-3
 u16-at-requires-3 c κs = search needs
 
+cast-result : tie.Need-cast-result
+cast-result c = search needs
+
 returns : tie.Need-returns
 unfolding goodTableHeading
 returns c = rw (c .before .before .before .u16-at .ensures .0, c .before .before .u32-at .ensures, c .before .u16-at2 .ensures .0, c .u16-at3 .ensures .0)
@@ -24,4 +27,4 @@ returns c = rw (c .before .before .before .u16-at .ensures .0, c .before .before
 pub good-heading-spec : {M : Type 1} → statement M
 good-heading-spec =
     tie.close
-    (tie.spec u16-at-requires u32-at-requires u16-at-requires-2 u16-at-requires-3 returns)
+    (tie.spec u16-at-requires u32-at-requires u16-at-requires-2 u16-at-requires-3 cast-result returns)

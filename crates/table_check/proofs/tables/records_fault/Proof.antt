@@ -22,11 +22,18 @@ Inv-loop shapes rules b k n i₀ i = (i ≤ n) × ((n ≡ count b) × ((p : Poli
 abbrev μ-loop : tie.MeasureT-loop
 μ-loop shapes rules b k n i₀ i = n - i
 
--- what the call says of record i
+-- where the loop stands after the call of `good_record`, and what the function was called with
+abbrev turn : tie.After-good-record Inv-loop μ-loop → tie.At-loop Inv-loop μ-loop
+turn c = c .before .before
+
+abbrev call : tie.At-loop Inv-loop μ-loop → tie.Start Inv-loop μ-loop
+call c = c .before .before .before
+
+-- what `good_record` says of record i
 said : (c : tie.After-good-record Inv-loop μ-loop) →
-    let a = c .before .before .before .before .before .args in
-    (p : Policy) → Shapes p (a .rules) (a .shapes .now) → goodRecord p (recordAt (a .b .now) (c .before .before .loop .i)) ≡ c .good-record .result
-said c p of = rw (record-from (c .before .before .before .before .before .args .b .now) (c .before .before .loop .i)) (sym (c .good-record .ensures p of))
+    let a = call (turn c) .args in
+    (p : Policy) → Shapes p (a .rules) (a .shapes .now) → goodRecord p (recordAt (a .b .now) (turn c .loop .i)) ≡ c .good-record .result
+said c p of = rw (record-from (call (turn c) .args .b .now) (turn c .loop .i)) (sym (c .good-record .ensures p of))
 
 u16-at-requires : tie.Need-u16-at-requires Inv-loop μ-loop
 u16-at-requires c κs = search needs
@@ -53,10 +60,11 @@ add-t12 c = search needs
 
 returns : tie.Need-returns Inv-loop μ-loop
 returns c =
-    let a = c .before .before .before .before .before .before .args in
-    let l = c .before .before .before .loop in
+    let at = turn (c .before) in
+    let a = call at .args in
+    let l = at .loop in
     λ p of.
-    first-hit (recordFaultAt p (a .k) (a .b .now)) (l .i) (c .before .before .before .before .u16-at .result) (l .inv .1 .1 p of) (omega arith)
+    first-hit (recordFaultAt p (a .k) (a .b .now)) (l .i) (at .before .u16-at .result) (l .inv .1 .1 p of) (omega arith)
     (unless-fails (refusal 15 (a .k) (l .i + 1)) (said (c .before) p of ∙ not-true (c .before .good-record .result) (c .if1 .taken)))
 
 add-i : tie.Need-add-i Inv-loop μ-loop
@@ -67,21 +75,23 @@ loop-less c = search needs
 
 loop-again : tie.Need-loop-again Inv-loop μ-loop
 loop-again c =
-    let a = c .before .before .before .before .before .before .args in
-    let l = c .before .before .before .loop in (
+    let at = turn (c .before) in
+    let a = call at .args in
+    let l = at .loop in (
       omega arith,
       (
         l .inv .1 .0,
         λ p of.
-            first-more (recordFaultAt p (a .k) (a .b .now)) (l .i) (c .before .before .before .before .u16-at .result) (l .inv .1 .1 p of) (omega arith)
+            first-more (recordFaultAt p (a .k) (a .b .now)) (l .i) (at .before .u16-at .result) (l .inv .1 .1 p of) (omega arith)
             (unless-passes (refusal 15 (a .k) (l .i + 1)) (said (c .before) p of ∙ not-false (c .before .good-record .result) (c .if1 .left))),
       ),
     )
 
 returns-2 : tie.Need-returns-2 Inv-loop μ-loop
 returns-2 c =
-    let a = c .before .before .before .before .args in
-    λ p of. first-done (recordFaultAt p (a .k) (a .b .now)) (c .before .loop .i) (c .before .before .u16-at .result) (c .before .loop .inv .1 .1 p of) (omega arith)
+    let at = c .before in
+    let a = call at .args in
+    λ p of. first-done (recordFaultAt p (a .k) (a .b .now)) (at .loop .i) (at .before .u16-at .result) (at .loop .inv .1 .1 p of) (omega arith)
 
 pub records-fault-spec : {M : Type 1} → statement M
 records-fault-spec =

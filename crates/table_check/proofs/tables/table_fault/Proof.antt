@@ -7,6 +7,7 @@ use borrow.Author.Tests.{not-true, not-false}
 use borrow.Author.Needs.{needs}
 use Rattle.word_laws.proofs.First.{test-fails, test-passes}
 use Rattle.format.specs.Answer.{refusal}
+use Rattle.format.specs.Layout.{tableBlocks}
 use Rattle.format.specs.Block.{goodLength}
 use Rattle.format.specs.Policy.{policyOf}
 use Rattle.format.specs.Table.{tableLengthFault, tableFault}
@@ -14,7 +15,11 @@ use Rattle.format_laws.proofs.Accepted.{blocked}
 use Rattle.table_check.proofs.tables.table_fault.Statement.{statement}
 use Rattle.table_check.proofs.tables.table_fault.Tie as tie
 
-sized : (c : tie.Else1) → goodLength 128 (c .before .before .before .before .args .table .now) ≡ true
+-- the call, seen from behind the test of the length
+abbrev call : tie.Else1 → tie.Start
+call c = c .before .before .before .before
+
+sized : (c : tie.Else1) → goodLength tableBlocks (call c .args .table .now) ≡ true
 sized c = sym (c .before .good-length .ensures) ∙ not-false (c .before .good-length .result) (c .if1 .left)
 
 good-length-requires : tie.Need-good-length-requires
@@ -29,15 +34,18 @@ shapes-of-requires c κs = search needs
 
 blocks-fault-requires : tie.Need-blocks-fault-requires
 blocks-fault-requires c κs =
-    let b = blocked 128 (c .before .before .before .before .before .before .before .args .table .now) (sized (c .before .before .before)) in
+    let passed = c .before .before .before in
+    let b = blocked tableBlocks (call passed .args .table .now) (sized passed) in
     omega (arith, b .whole-blocks, b .not-over)
 
 returns-2 : tie.Need-returns-2
 unfolding tableFault tableLengthFault
 returns-2 c =
-    let s = c .before .before .before .before .before .before .before .before in
-    rw (s .pre .1 .1) at (c .blocks-fault .ensures (policyOf (s .args .policy .now)) (c .before .before .shapes-of .ensures))
-    ∙ sym (test-passes (refusal 11 0 0) _ (sized (c .before .before .before .before)))
+    let shaped = c .before .before in
+    let passed = shaped .before .before in
+    let s = call passed in
+    rw (s .pre .stamp-is) at (c .blocks-fault .ensures (policyOf (s .args .policy .now)) (shaped .shapes-of .ensures))
+    ∙ sym (test-passes (refusal 11 0 0) _ (sized passed))
 
 pub table-fault-spec : {M : Type 1} → statement M
 table-fault-spec =
