@@ -1,6 +1,8 @@
--- Worked examples of the formats: what fits a rule, what is a good request, rule, policy and table, and the number that a bad one gets.
+-- Worked examples of the formats: what fits a rule, what is a good request, rule, policy and table, and the number that a bad one gets. Each is
+-- broken by one of this crate's must-fail edits. The edits alter these definitions or what they are made of, save two: refusalOf and faultOf (Code)
+-- say what a value of the code stands for, which no example computes; the contracts of the checks, in the crates above, are stated with them.
 -- Assumes nothing.
-use Prim.Native.Nat.{ℕ, _-_, _*_}
+use Prim.Native.Nat.{ℕ, _+_, _-_, _*_}
 use mathlib.Core.Path.{_≡_, refl}
 use mathlib.Core.Bool.{Bool, true, false}
 use mathlib.Core.List.{List, [], _∷_, _++_, map, flatten}
@@ -8,20 +10,21 @@ use mathlib.Core.Option.{Option, none, some}
 use lib.ListN.{length, getD, take, replicate}
 use Rattle.words.specs.Lists.{allBelow, anyBelow, sumBelow, tab, sameList}
 use Rattle.words.specs.First.{_orElse_, unless, first}
-use Rattle.words.specs.Bytes.{bytes2, bytes4, zeros, zeroFrom, bit}
+use Rattle.words.specs.Bytes.{bytes2, bytes4, zeros, part, zeroFrom, bit}
 use Rattle.words.specs.Sums.{sums, addWords, addWord, words}
 use Rattle.format.specs.Answer.{Refusal, refusal, Answer, accept, refuse, accepting, refusing}
-use Rattle.format.specs.Layout.{capacity}
-use Rattle.format.specs.Block.{goodLength, checkOf, goodCheck, sumBytes, sealed}
-use Rattle.format.specs.Request.{Request, hasRole, usedLevel, blankLevel, depthOf, goodContext, goodRequest, requestFault}
+use Rattle.format.specs.Block.{kind, number, total, goodLength, checkOf, goodCheck, sumBytes, sealed}
+use Rattle.format.specs.Request.{Request, user, roles as activeRoles, operation, target, hasRole, contextOf, levelType, levelValue, usedLevel}
+use Rattle.format.specs.Request.{blankLevel, depthOf, goodContext, goodRequest, requestFault}
 use Rattle.format.specs.Rule.{Rule, Level, Exclusion, Privilege, Step, ruleAt, goodMark, goodLevel, blankLevel as blankRuleLevel, goodStep}
 use Rattle.format.specs.Rule.{goodSteps, goodRule, goodRoles, goodPrivileges, goodExclusion, blankExclusion, goodRuleBytes, goodExclusionAt}
 use Rattle.format.specs.Rule.{ruleFault}
 use Rattle.format.specs.Fits.{fits, levelFits, place, placeValue, samePlace}
-use Rattle.format.specs.Policy.{Policy, permissionAt, goodPermission, goodPermissionBytes, permissionFault, goodPolicyHeader, policyBlockFault}
-use Rattle.format.specs.Policy.{policyFault, ruleCount, permissionsAt, policyOf, stamp}
-use Rattle.format.specs.Table.{goodMarks, goodRecord, recordAt, gap, goodTableHeader, goodStamp, tableBlockFault, tableLengthFault, tableFault}
-use Rattle.format.specs.Table.{recordsOf, blockImage, tableImage, freshTable}
+use Rattle.format.specs.Policy.{Policy, permissionAt, entries, goodPermission, goodPermissionBytes, permissionFault, goodPolicyHeader}
+use Rattle.format.specs.Policy.{policyBlockFault, policyFault, ruleCount, permissionsAt, policyOf, stamp}
+use Rattle.format.specs.Table.{count, goodMarks, goodRecord, recordAt, gap, goodTableHeader, goodStamp, tableBlockFault, tableLengthFault}
+use Rattle.format.specs.Table.{tableFault, recordsOf, recordImage, blockImage, tableImage, freshTable}
+use Rattle.format.specs.Place.{recordPlace, recordsHere}
 use Rattle.format.specs.Calls.{checkPolicy, checkTable, makeTable}
 
 -- what these examples compute with
@@ -31,7 +34,7 @@ unfolding flatten allBelow anyBelow sumBelow tab sameList _orElse_ unless first 
     blankRuleLevel goodStep goodSteps goodRule goodRoles goodPrivileges goodExclusion blankExclusion goodRuleBytes goodExclusionAt ruleFault fits
     levelFits place placeValue samePlace goodPermission goodPermissionBytes permissionFault goodPolicyHeader policyBlockFault policyFault ruleCount
     permissionsAt policyOf stamp goodMarks goodRecord recordAt gap goodTableHeader goodStamp tableBlockFault tableLengthFault tableFault recordsOf
-    blockImage tableImage freshTable checkPolicy checkTable makeTable
+    recordImage blockImage tableImage freshTable recordsHere checkPolicy checkTable makeTable
 opened = tt
 
 -- ---- requests
@@ -48,47 +51,96 @@ request u k o t levels = bytes4 u ++ bytes4 k ++ bytes2 o ++ bytes2 t ++ context
 abbrev asked : List ℕ → Request
 asked levels = request 7 1 1 1 levels
 
--- "Used levels come first; the others are zero. No levels is the whole business." None to four levels, and a level whose low bytes are zero
-pub contexts-good :
-    map (λ c. goodContext (context c)) ([] ∷ (1 ∷ 5 ∷ []) ∷ (1 ∷ 5 ∷ 2 ∷ 90 ∷ 3 ∷ 7 ∷ 4 ∷ 8 ∷ []) ∷ (256 ∷ 256 ∷ []) ∷ [])
-    ≡ true ∷ true ∷ true ∷ true ∷ []
+-- "Used levels come first; the others are zero"; "both numbers of a used level are from 1". Good: no level, one, four, one whose low bytes are zero. Half
+-- used: a type with no value, a value with no type, a half-used level after a used one. With a hole: a used level after a blank one, at each depth
+pub contexts :
+    map (map (λ c. goodContext (context c)))
+    (([] ∷ (1 ∷ 5 ∷ []) ∷ (1 ∷ 5 ∷ 2 ∷ 90 ∷ 3 ∷ 7 ∷ 4 ∷ 8 ∷ []) ∷ (256 ∷ 256 ∷ []) ∷ [])
+    ∷ ((1 ∷ 0 ∷ []) ∷ (0 ∷ 5 ∷ []) ∷ (1 ∷ 5 ∷ 2 ∷ 0 ∷ []) ∷ [])
+    ∷ ((0 ∷ 0 ∷ 1 ∷ 5 ∷ []) ∷ (1 ∷ 5 ∷ 0 ∷ 0 ∷ 2 ∷ 90 ∷ []) ∷ (1 ∷ 5 ∷ 2 ∷ 90 ∷ 0 ∷ 0 ∷ 4 ∷ 8 ∷ []) ∷ [])
+    ∷ [])
+    ≡ replicate 4 true ∷ replicate 3 false ∷ replicate 3 false ∷ []
 unfolding opened
-contexts-good = refl
+contexts = refl
 
--- "both numbers of a used level are from 1": a type with no value, a value with no type, and a half-used level after a used one
-pub contexts-half-used : map (λ c. goodContext (context c)) ((1 ∷ 0 ∷ []) ∷ (0 ∷ 5 ∷ []) ∷ (1 ∷ 5 ∷ 2 ∷ 0 ∷ []) ∷ []) ≡ false ∷ false ∷ false ∷ []
+-- "21: length not 28" goes before "22: a field": a byte less, with every field 0; a byte more. Then 22 for user 0, roles 0, operation 0, target 0, a
+-- half-used level; and a good one, each field with its highest byte alone
+pub requests :
+    map (map requestFault)
+    ((zeros 27 ∷ (asked [] ++ zeros 1) ∷ [])
+    ∷ (request 0 1 1 1 [] ∷ request 7 0 1 1 [] ∷ request 7 1 0 1 [] ∷ request 7 1 1 0 [] ∷ asked (1 ∷ 0 ∷ []) ∷ [])
+    ∷ (request 16777216 2147483648 256 256 (256 ∷ 256 ∷ []) ∷ [])
+    ∷ [])
+    ≡ replicate 2 (some (refusal 21 0 0)) ∷ replicate 5 (some (refusal 22 0 0)) ∷ (none ∷ []) ∷ []
 unfolding opened
-contexts-half-used = refl
-
--- "Used levels come first": not after a blank one, be it the first or the second or the third
-pub contexts-with-a-hole :
-    map (λ c. goodContext (context c)) ((0 ∷ 0 ∷ 1 ∷ 5 ∷ []) ∷ (1 ∷ 5 ∷ 0 ∷ 0 ∷ 2 ∷ 90 ∷ []) ∷ (1 ∷ 5 ∷ 2 ∷ 90 ∷ 0 ∷ 0 ∷ 4 ∷ 8 ∷ []) ∷ [])
-    ≡ false ∷ false ∷ false ∷ []
-unfolding opened
-contexts-with-a-hole = refl
-
--- "21: length not 28": no byte, one less and one more; it goes before 22
-pub requests-of-another-length :
-    map requestFault ([] ∷ zeros 27 ∷ (asked [] ++ zeros 1) ∷ []) ≡ some (refusal 21 0 0) ∷ some (refusal 21 0 0) ∷ some (refusal 21 0 0) ∷ []
-unfolding opened
-requests-of-another-length = refl
-
--- "22: a field": user 0, roles 0, operation 0, target 0, a half-used level
-pub requests-with-a-bad-field :
-    map requestFault (request 0 1 1 1 [] ∷ request 7 0 1 1 [] ∷ request 7 1 0 1 [] ∷ request 7 1 1 0 [] ∷ asked (1 ∷ 0 ∷ []) ∷ [])
-    ≡ replicate 5 (some (refusal 22 0 0))
-unfolding opened
-requests-with-a-bad-field = refl
-
--- good ones: the lowest numbers, and each field with its highest byte alone
-pub requests-good : map requestFault (request 1 1 1 1 [] ∷ request 16777216 2147483648 256 256 (1 ∷ 5 ∷ []) ∷ []) ≡ none ∷ none ∷ []
-unfolding opened
-requests-good = refl
+requests = refl
 
 -- "role k is bit k - 1": roles 1, 2, 31 and 32 of a request with the roles 1 and 32
 pub roles-by-bit : map (λ k. hasRole k (request 7 2147483649 1 1 [])) (1 ∷ 2 ∷ 31 ∷ 32 ∷ []) ≡ true ∷ false ∷ false ∷ true ∷ []
 unfolding opened
 roles-by-bit = refl
+
+-- ---- where the fields stand. Each byte of this block is its own place, and `two` and `four` are the fields of 2 and 4 bytes there
+
+abbrev places : List ℕ
+places = tab (λ i. i) 0 256
+
+abbrev two : ℕ → ℕ
+two i = i + 256 * (i + 1)
+
+abbrev four : ℕ → ℕ
+four i = two i + 65536 * two (i + 2)
+
+-- the rule block: 8, 9, 10, 11; level 2 (24-31) with its type, mark, zero, value, zero; the steps (48-51, 52-55); exclusion 2 (92-127) with its kind, m, n,
+-- zero and third member
+pub rule-places :
+    (let r = ruleAt places in
+    let x = r .exclusion 1 in
+    (r .depth ∷ r .exclusions ∷ r .firstStep .flag ∷ r .lastStep .flag ∷ [])
+    ∷ (r .level 1 .type ∷ r .level 1 .mark ∷ r .level 1 .pad ∷ r .level 1 .value ∷ r .level 1 .tail ∷ [])
+    ∷ (r .firstStep .privilege .operation ∷ r .firstStep .privilege .target ∷ [])
+    ∷ (r .lastStep .privilege .operation ∷ r .lastStep .privilege .target ∷ [])
+    ∷ (x .kind ∷ x .m ∷ x .n ∷ x .pad ∷ x .member 2 .operation ∷ x .member 2 .target ∷ [])
+    ∷ [])
+    ≡ (8 ∷ 9 ∷ 10 ∷ 11 ∷ [])
+    ∷ (two 24 ∷ 26 ∷ 27 ∷ two 28 ∷ two 30 ∷ [])
+    ∷ (two 48 ∷ two 50 ∷ [])
+    ∷ (two 52 ∷ two 54 ∷ [])
+    ∷ (92 ∷ 93 ∷ 94 ∷ 95 ∷ two 104 ∷ two 106 ∷ [])
+    ∷ []
+unfolding opened
+rule-places = refl
+
+-- every block: kind, number, total; the number of entries, of records; the third entry (32-39). The request: user, roles, operation, target, and the second
+-- level of its context
+pub other-places :
+    (let e = permissionAt places 2 in
+    let c = contextOf places in
+    (kind places ∷ number places ∷ total places ∷ entries places ∷ count places ∷ [])
+    ∷ (e .role ∷ e .operation ∷ e .target ∷ e .pad ∷ [])
+    ∷ (user places ∷ activeRoles places ∷ operation places ∷ target places ∷ levelType c 1 ∷ levelValue c 1 ∷ [])
+    ∷ [])
+    ≡ (four 0 ∷ two 4 ∷ two 6 ∷ two 8 ∷ two 8 ∷ [])
+    ∷ (two 32 ∷ two 34 ∷ two 36 ∷ two 38 ∷ [])
+    ∷ (four 0 ∷ four 4 ∷ two 8 ∷ two 10 ∷ two 16 ∷ two 18 ∷ [])
+    ∷ []
+unfolding opened
+other-places = refl
+
+-- "15 records from byte 24": the second record of a block (56-87), by its block and by its place in a table
+pub record-places :
+    (recordAt places 1 ∷ recordsHere places 2)
+    ≡ record { request = part places 56 28; marks = four 84 }
+    ∷ record { request = part places 24 28; marks = four 52 }
+    ∷ record { request = part places 56 28; marks = four 84 }
+    ∷ []
+unfolding opened
+record-places = refl
+
+-- where the first, the 15th, the 16th and the 17th record of a table begin
+pub record-places-in-turn : map recordPlace (0 ∷ 14 ∷ 15 ∷ 16 ∷ []) ≡ 24 ∷ 472 ∷ 536 ∷ 568 ∷ []
+unfolding opened
+record-places-in-turn = refl
 
 -- ---- rules
 
@@ -110,6 +162,9 @@ privilege o t = record { operation = o; target = t }
 
 abbrev step : ℕ → ℕ → ℕ → Step
 step f o t = record { flag = f; privilege = privilege o t }
+
+abbrev unset : Step
+unset = step 0 0 0
 
 -- an exclusion: kind, m, n, members
 abbrev exclusion : ℕ → ℕ → ℕ → List Privilege → Exclusion
@@ -135,7 +190,7 @@ ruleWith d x ls f l =
     }
 
 abbrev rule : List Level → Rule
-rule ls = ruleWith (length ls) 1 ls (step 0 0 0) (step 0 0 0)
+rule ls = ruleWith (length ls) 1 ls unset unset
 
 -- "1 fixed (value 1 to 65535), 2 every, 3 each (value 0)": marks 0 to 4 with the value 0, then with the value 7
 pub marks-good :
@@ -144,54 +199,44 @@ pub marks-good :
 unfolding opened
 marks-good = refl
 
--- "Types of used levels are 1 to 65535", and the zeros of a level are zero
-pub levels-good :
-    map goodLevel
+-- "depth 0 to 4", here with that many levels; "exclusions, 1 to 8": 0, 1, 8, 9
+pub rule-sizes :
+    (map (λ d. goodRule (rule (take d (fixed 1 5 ∷ each 2 ∷ every 3 ∷ each 4 ∷ each 5 ∷ [])))) (0 ∷ 1 ∷ 4 ∷ 5 ∷ [])
+    ∷ map (λ x. goodRule (ruleWith 0 x [] unset unset)) (0 ∷ 1 ∷ 8 ∷ 9 ∷ [])
+    ∷ [])
+    ≡ (true ∷ true ∷ true ∷ false ∷ []) ∷ (false ∷ true ∷ true ∷ false ∷ []) ∷ []
+unfolding opened
+rule-sizes = refl
+
+-- "levels past the depth are all zero", and those up to it are not: two levels at depth 1, 2 and 3; a mark or a value alone past the depth. "Types of
+-- used levels are 1 to 65535", and the zeros of a level are zero
+pub rule-levels :
+    (map (λ d. goodRule (ruleWith d 1 (every 1 ∷ each 2 ∷ []) unset unset)) (1 ∷ 2 ∷ 3 ∷ [])
+    ∷ map (λ l. goodRule (ruleWith 0 1 (l ∷ []) unset unset)) (level 0 0 0 ∷ level 0 1 0 ∷ level 0 0 1 ∷ [])
+    ∷ map (λ l. goodRule (rule (l ∷ [])))
     (every 1
     ∷ every 0
     ∷ record { type = 1; mark = 2; pad = 1; value = 0; tail = 0 }
     ∷ record { type = 1; mark = 2; pad = 0; value = 0; tail = 1 }
     ∷ [])
-    ≡ true ∷ false ∷ false ∷ false ∷ []
-unfolding opened
-levels-good = refl
-
--- "depth 0 to 4", here with that many levels
-pub rule-depths :
-    map (λ d. goodRule (rule (take d (fixed 1 5 ∷ each 2 ∷ every 3 ∷ each 4 ∷ each 5 ∷ [])))) (0 ∷ 1 ∷ 2 ∷ 3 ∷ 4 ∷ 5 ∷ [])
-    ≡ true ∷ true ∷ true ∷ true ∷ true ∷ false ∷ []
-unfolding opened
-rule-depths = refl
-
--- "levels past the depth are all zero", and those up to it are not
-pub rule-levels :
-    map (λ d. goodRule (ruleWith d 1 (every 1 ∷ each 2 ∷ []) (step 0 0 0) (step 0 0 0))) (1 ∷ 2 ∷ 3 ∷ []) ≡ false ∷ true ∷ false ∷ []
+    ∷ [])
+    ≡ (false ∷ true ∷ false ∷ []) ∷ (true ∷ false ∷ false ∷ []) ∷ (true ∷ false ∷ false ∷ false ∷ []) ∷ []
 unfolding opened
 rule-levels = refl
 
--- "exclusions, 1 to 8"
-pub rule-exclusions :
-    map (λ x. goodRule (ruleWith 0 x [] (step 0 0 0) (step 0 0 0))) (0 ∷ 1 ∷ 8 ∷ 9 ∷ []) ≡ false ∷ true ∷ true ∷ false ∷ []
-unfolding opened
-rule-exclusions = refl
+-- a rule with this first step, and operation 5 on target 1 as its last
+abbrev stepped : Step → Bool
+stepped f = goodRule (ruleWith 0 1 [] f (step 1 5 1))
 
--- "Set steps .. are not equal": none set, one, two of different operations, two of different targets; not two equal ones
+-- "Set steps have operation and target 1 to 65535 and are not equal"; "zero if not set"; "1 if .. set, else 0". Good: none set, one, two of different
+-- operations, two of different targets. Bad: two equal ones; a set one stepped no target, stepped no operation; one not set stepped either; a flag of 2
 pub rule-steps :
-    (goodSteps (step 0 0 0) (step 0 0 0)
-    ∷ goodSteps (step 1 5 1) (step 0 0 0)
-    ∷ goodSteps (step 1 5 1) (step 1 6 1)
-    ∷ goodSteps (step 1 5 1) (step 1 5 2)
-    ∷ goodSteps (step 1 5 1) (step 1 5 1)
-    ∷ goodRule (ruleWith 0 1 [] (step 1 5 1) (step 1 5 1))
+    ((goodRule (rule []) ∷ stepped unset ∷ stepped (step 1 6 1) ∷ stepped (step 1 5 2) ∷ [])
+    ∷ (stepped (step 1 5 1) ∷ stepped (step 1 5 0) ∷ stepped (step 1 0 1) ∷ stepped (step 0 5 0) ∷ stepped (step 0 0 1) ∷ stepped (step 2 6 1) ∷ [])
     ∷ [])
-    ≡ true ∷ true ∷ true ∷ true ∷ false ∷ false ∷ []
+    ≡ replicate 4 true ∷ replicate 6 false ∷ []
 unfolding opened
 rule-steps = refl
-
--- "Set steps have operation and target 1 to 65535"; "zero if not set"; "1 if .. set, else 0"
-pub steps-good : map goodStep (step 1 5 0 ∷ step 1 0 1 ∷ step 0 5 0 ∷ step 0 0 1 ∷ step 2 5 1 ∷ []) ≡ replicate 5 false
-unfolding opened
-steps-good = refl
 
 -- "2 <= m <= n <= 8": m and n of 2, 2 and 8, 8; m = 1, m above n, n = 9
 pub exclusion-numbers :
@@ -220,60 +265,42 @@ pub exclusion-roles :
 unfolding opened
 exclusion-roles = refl
 
--- "Kind 2: operation, target, each 1 to 65535; repeats allowed": a repeat; an operation 0; a target 0
-pub exclusion-privileges :
-    map goodExclusion (operations 2 2 (1 ∷ 1 ∷ []) ∷ operations 2 2 (1 ∷ 0 ∷ []) ∷ exclusion 2 2 2 (privilege 1 1 ∷ privilege 2 0 ∷ []) ∷ [])
-    ≡ true ∷ false ∷ false ∷ []
-unfolding opened
-exclusion-privileges = refl
-
--- "Members past n .. are zero"; there is no kind 0 or 3; the byte after n is zero
-pub exclusion-rest :
-    map goodExclusion
+-- "Kind 2: operation, target, each 1 to 65535; repeats allowed": a repeat; an operation 0; a target 0. "Members past n .. are zero"; there is no kind 0 or 3;
+-- the byte after n is zero
+pub exclusion-members :
+    (map goodExclusion (operations 2 2 (1 ∷ 1 ∷ []) ∷ operations 2 2 (1 ∷ 0 ∷ []) ∷ exclusion 2 2 2 (privilege 1 1 ∷ privilege 2 0 ∷ []) ∷ [])
+    ∷ map goodExclusion
     (roles 2 2 (1 ∷ 2 ∷ 3 ∷ [])
     ∷ operations 2 2 (1 ∷ 2 ∷ 3 ∷ [])
     ∷ exclusion 0 2 2 (privilege 1 0 ∷ privilege 2 0 ∷ [])
     ∷ exclusion 3 2 2 (privilege 1 1 ∷ privilege 2 1 ∷ [])
     ∷ record { kind = 1; m = 2; n = 2; pad = 1; member = roles 2 2 (1 ∷ 2 ∷ []) .member }
     ∷ [])
-    ≡ replicate 5 false
+    ∷ [])
+    ≡ (true ∷ false ∷ false ∷ []) ∷ replicate 5 false ∷ []
 unfolding opened
-exclusion-rest = refl
+exclusion-members = refl
 
--- ---- which contexts fit a rule
+-- ---- which contexts fit a rule, and which share a run place
 
 -- the context of these levels fits a rule of those
 abbrev fitting : List Level → List ℕ → Bool
 fitting ls c = fits (rule ls) (asked c)
 
--- "for mark 1 the same value"
-pub fits-fixed : map (λ v. fitting (fixed 1 5 ∷ []) (1 ∷ v ∷ [])) (5 ∷ 6 ∷ 261 ∷ []) ≡ true ∷ false ∷ false ∷ []
-unfolding opened
-fits-fixed = refl
-
--- marks 2 and 3 ask for no value
-pub fits-every-and-each :
-    map (λ l. map (λ v. fitting (l ∷ []) (1 ∷ v ∷ [])) (5 ∷ 6 ∷ [])) (every 1 ∷ each 1 ∷ []) ≡ (true ∷ true ∷ []) ∷ (true ∷ true ∷ []) ∷ []
-unfolding opened
-fits-every-and-each = refl
-
--- "at each rule level, the same type", whatever the mark
-pub fits-type : map (λ l. fitting (l ∷ []) (2 ∷ 5 ∷ [])) (fixed 1 5 ∷ every 1 ∷ each 1 ∷ []) ≡ false ∷ false ∷ false ∷ []
-unfolding opened
-fits-type = refl
-
--- "at each rule level": the second and the first of two levels differ, in type or in a fixed value
+-- "at each rule level, the same type, and for mark 1 the same value": types 1 and 2, each with the values 5 and 6, under each mark; then two levels
+-- that fit, and four contexts that fit one of them
 pub fits-levels :
-    map (fitting (fixed 1 5 ∷ fixed 2 90 ∷ []))
+    map (λ l. map (λ c. fitting (l ∷ []) c) ((1 ∷ 5 ∷ []) ∷ (1 ∷ 6 ∷ []) ∷ (2 ∷ 5 ∷ []) ∷ [])) (fixed 1 5 ∷ every 1 ∷ each 1 ∷ [])
+    ++ (map (fitting (fixed 1 5 ∷ fixed 2 90 ∷ []))
     ((1 ∷ 5 ∷ 2 ∷ 90 ∷ []) ∷ (1 ∷ 5 ∷ 2 ∷ 91 ∷ []) ∷ (1 ∷ 6 ∷ 2 ∷ 90 ∷ []) ∷ (1 ∷ 5 ∷ 3 ∷ 90 ∷ []) ∷ (2 ∷ 90 ∷ 1 ∷ 5 ∷ []) ∷ [])
-    ≡ true ∷ false ∷ false ∷ false ∷ false ∷ []
+    ∷ [])
+    ≡ (true ∷ false ∷ false ∷ [])
+    ∷ (true ∷ true ∷ false ∷ [])
+    ∷ (true ∷ true ∷ false ∷ [])
+    ∷ (true ∷ false ∷ false ∷ false ∷ false ∷ [])
+    ∷ []
 unfolding opened
 fits-levels = refl
-
--- a rule of depth 0 fits every context: no levels, one, four
-pub fits-depth-0 : map (fitting []) ([] ∷ (1 ∷ 5 ∷ []) ∷ (1 ∷ 5 ∷ 2 ∷ 90 ∷ 3 ∷ 7 ∷ 4 ∷ 8 ∷ []) ∷ []) ≡ true ∷ true ∷ true ∷ []
-unfolding opened
-fits-depth-0 = refl
 
 -- "at least the rule's depth": rules of depth 0 to 4 on a context of four levels, of two, of none
 pub fits-depths :
@@ -282,8 +309,6 @@ pub fits-depths :
     ≡ (true ∷ true ∷ true ∷ true ∷ true ∷ []) ∷ (true ∷ true ∷ true ∷ false ∷ false ∷ []) ∷ (true ∷ false ∷ false ∷ false ∷ false ∷ []) ∷ []
 unfolding opened
 fits-depths = refl
-
--- ---- which contexts share a run place
 
 -- "if they agree in value at each mark 3": in both, in one, in the other, in neither; what stands at mark 2 does not matter
 pub shared-each :
@@ -297,29 +322,25 @@ pub shared-each :
 unfolding opened
 shared-each = refl
 
--- a rule with no mark 3 has one run place: "depot every" takes depots 5 and 6 together, and so does a rule of depth 0
+-- trap "treating "every" as "each"": jobs of the depots 5 and 6 share a run place under "depot every" and under no level, not under "depot each"; jobs 90
+-- and 91 of one depot share it under "depot each", whose depth they pass
 pub shared-every :
-    map (λ ls. samePlace (rule ls) (asked (1 ∷ 5 ∷ [])) (asked (1 ∷ 6 ∷ []))) ((every 1 ∷ []) ∷ [] ∷ (each 1 ∷ []) ∷ []) ≡ true ∷ true ∷ false ∷ []
+    (map (λ ls. samePlace (rule ls) (asked (1 ∷ 5 ∷ 2 ∷ 90 ∷ [])) (asked (1 ∷ 6 ∷ 2 ∷ 90 ∷ []))) ((every 1 ∷ []) ∷ [] ∷ (each 1 ∷ []) ∷ [])
+    ∷ map (λ c. samePlace (rule (each 1 ∷ [])) (asked (1 ∷ 5 ∷ 2 ∷ 90 ∷ [])) (asked c)) ((1 ∷ 5 ∷ 2 ∷ 91 ∷ []) ∷ (1 ∷ 5 ∷ []) ∷ [])
+    ∷ [])
+    ≡ (true ∷ true ∷ false ∷ []) ∷ (true ∷ true ∷ []) ∷ []
 unfolding opened
 shared-every = refl
-
--- levels past the rule's depth do not matter: jobs 90 and 91 of a depot, and the depot itself
-pub shared-deeper :
-    map (λ c. samePlace (rule (each 1 ∷ [])) (asked (1 ∷ 5 ∷ 2 ∷ 90 ∷ [])) (asked c))
-    ((1 ∷ 5 ∷ 2 ∷ 91 ∷ []) ∷ (1 ∷ 5 ∷ []) ∷ (1 ∷ 6 ∷ 2 ∷ 90 ∷ []) ∷ [])
-    ≡ true ∷ true ∷ false ∷ []
-unfolding opened
-shared-deeper = refl
 
 -- ---- policy blocks. A byte that a list here does not have reads as zero, so these blocks are written up to their last byte that is not zero
 
 -- a block's kind, number and total
 abbrev head : ℕ → ℕ → ℕ → List ℕ
-head kind number total = bytes4 kind ++ bytes2 number ++ bytes2 total
+head k i n = bytes4 k ++ bytes2 i ++ bytes2 n
 
 -- a rule block: number, total, what stands from byte 8 on (depth, exclusions, ..), what stands from byte 56 on
 abbrev ruleBytes : ℕ → ℕ → List ℕ → List ℕ → List ℕ
-ruleBytes k total ds xs = head 1 k total ++ ds ++ zeros (48 - length ds) ++ xs
+ruleBytes k n ds xs = head 1 k n ++ ds ++ zeros (48 - length ds) ++ xs
 
 -- an exclusion of the roles 1 and 2, its m to be said
 abbrev pair : ℕ → List ℕ
@@ -327,14 +348,14 @@ pair m = (1 ∷ m ∷ 2 ∷ 0 ∷ []) ++ flatten (map bytes4 (1 ∷ 2 ∷ [])) +
 
 -- a permission block: number, total, entries, what stands from byte 16 on
 abbrev permissionBytes : ℕ → ℕ → ℕ → List ℕ → List ℕ
-permissionBytes k total n es = head 3 k total ++ bytes2 n ++ zeros 6 ++ es
+permissionBytes k n es xs = head 3 k n ++ bytes2 es ++ zeros 6 ++ xs
 
 -- an entry: role, operation, target
 abbrev entry : ℕ → ℕ → ℕ → List ℕ
 entry k o t = bytes2 k ++ bytes2 o ++ bytes2 t ++ zeros 2
 
--- "4: rule's other bytes": depth 5, no exclusion, a byte after the steps' flags, one after the exclusions; and before 5
-pub rule-bytes :
+-- "4: rule's other bytes": depth 5, no exclusion, byte 12, byte 344; and before 5: depth 5 with m = 1
+pub rule-other-bytes :
     map (ruleFault 7)
     (ruleBytes 7 9 (5 ∷ 1 ∷ []) (pair 2)
     ∷ ruleBytes 7 9 (0 ∷ 0 ∷ []) (pair 2)
@@ -344,28 +365,19 @@ pub rule-bytes :
     ∷ [])
     ≡ replicate 5 (some (refusal 4 7 0))
 unfolding opened
-rule-bytes = refl
+rule-other-bytes = refl
 
--- "exclusions past their number, are zero": rules of one, two and three exclusions, each with a good one at each of the first three places
-pub exclusions-past :
-    map (λ x. map (goodExclusionAt (ruleWith 0 x [] (step 0 0 0) (step 0 0 0))) (0 ∷ 1 ∷ 2 ∷ [])) (1 ∷ 2 ∷ 3 ∷ [])
-    ≡ (true ∷ false ∷ false ∷ []) ∷ (true ∷ true ∷ false ∷ []) ∷ (true ∷ true ∷ true ∷ []) ∷ []
-unfolding opened
-exclusions-past = refl
-
--- "5: an exclusion", from 1: "m = 1 gives 5"
-pub rule-exclusion : ruleFault 7 (ruleBytes 7 9 (0 ∷ 1 ∷ []) (pair 1)) ≡ some (refusal 5 7 1)
-unfolding opened
-rule-exclusion = refl
-
--- the first bad one is named: the second and third of three; "one past the number that is not zero"; none
+-- "5: an exclusion", the first bad one from 1: "m = 1 gives 5"; the second and third of three; "one past the number that is not zero", the last byte of
+-- the second and of the eighth; none
 pub rule-exclusions-in-turn :
     map (ruleFault 7)
-    (ruleBytes 7 9 (0 ∷ 3 ∷ []) (pair 2 ++ pair 1 ++ pair 1)
+    (ruleBytes 7 9 (0 ∷ 1 ∷ []) (pair 1)
+    ∷ ruleBytes 7 9 (0 ∷ 3 ∷ []) (pair 2 ++ pair 1 ++ pair 1)
     ∷ ruleBytes 7 9 (0 ∷ 1 ∷ []) (pair 2 ++ zeros 35 ++ (1 ∷ []))
+    ∷ ruleBytes 7 9 (0 ∷ 1 ∷ []) (pair 2 ++ zeros 251 ++ (1 ∷ []))
     ∷ ruleBytes 7 9 (0 ∷ 1 ∷ []) (pair 2)
     ∷ [])
-    ≡ some (refusal 5 7 2) ∷ some (refusal 5 7 2) ∷ none ∷ []
+    ≡ some (refusal 5 7 1) ∷ some (refusal 5 7 2) ∷ some (refusal 5 7 2) ∷ some (refusal 5 7 8) ∷ none ∷ []
 unfolding opened
 rule-exclusions-in-turn = refl
 
@@ -377,24 +389,20 @@ pub entries-good :
 unfolding opened
 entries-good = refl
 
--- "6: a permission block's other bytes", the first bad entry from 1: the second and third of three; the second and all after it of 61
-pub permission-entry :
-    map (permissionFault 7) (permissionBytes 7 9 3 (entry 1 1 1 ++ entry 0 1 1 ++ entry 0 1 1) ∷ permissionBytes 7 9 61 (entry 1 1 1) ∷ [])
-    ≡ some (refusal 6 7 2) ∷ some (refusal 6 7 2) ∷ []
-unfolding opened
-permission-entry = refl
-
--- "a fault outside the counted entries, bytes after them too, gives 0 and comes first": 62 entries; byte 10; an entry more; and a bad one before it
-pub permission-outside-entries :
-    map (permissionFault 7)
-    (permissionBytes 7 9 62 []
+-- "6: a permission block's other bytes": the first bad entry from 1, here the second and third of three, the second and all after it of 61. "a fault outside
+-- the counted entries, bytes after them too, gives 0 and comes first": 62 entries; byte 10; an entry more; and a bad one before it
+pub permission-faults :
+    map (map (permissionFault 7))
+    ((permissionBytes 7 9 3 (entry 1 1 1 ++ entry 0 1 1 ++ entry 0 1 1) ∷ permissionBytes 7 9 61 (entry 1 1 1) ∷ [])
+    ∷ (permissionBytes 7 9 62 []
     ∷ (head 3 7 9 ++ bytes2 0 ++ (1 ∷ []))
     ∷ permissionBytes 7 9 1 (entry 1 1 1 ++ entry 1 1 1)
     ∷ permissionBytes 7 9 1 (entry 0 1 1 ++ entry 1 1 1)
     ∷ [])
-    ≡ replicate 4 (some (refusal 6 7 0))
+    ∷ [])
+    ≡ replicate 2 (some (refusal 6 7 2)) ∷ replicate 4 (some (refusal 6 7 0)) ∷ []
 unfolding opened
-permission-outside-entries = refl
+permission-faults = refl
 
 -- ---- policies
 
@@ -410,44 +418,37 @@ unsealed b = body b ++ zeros 8
 
 -- a rule of no levels and no steps
 abbrev ruleBlock : ℕ → ℕ → List ℕ
-ruleBlock k total = ruleBytes k total (0 ∷ 1 ∷ []) (pair 2)
+ruleBlock k n = ruleBytes k n (0 ∷ 1 ∷ []) (pair 2)
 
--- "1: length not 512 times 1 to 64": no block, less than one, one and a byte, 65
-pub policies-of-another-length : map policyFault ([] ∷ zeros 511 ∷ zeros 513 ∷ zeros 33280 ∷ []) ≡ replicate 4 (some (refusal 1 0 0))
+-- "The block stores a, then b": both are right, a alone is, b alone is, they are turned round
+pub checks :
+    map (λ z. goodCheck (zeros 504 ++ z))
+    ((bytes4 1 ++ bytes4 126) ∷ (bytes4 1 ++ zeros 4) ∷ (zeros 4 ++ bytes4 126) ∷ (bytes4 126 ++ bytes4 1) ∷ [])
+    ≡ true ∷ false ∷ false ∷ false ∷ []
 unfolding opened
-policies-of-another-length = refl
+checks = refl
 
--- "0 to 32 rule blocks, then permission blocks": no rule and no entry; a rule and no permission block. "Acceptance returns a policy's rules"
-pub policies-good : map checkPolicy (whole (permissionBytes 0 1 0 []) ∷ whole (ruleBlock 0 1) ∷ []) ≡ accept 0 ∷ accept 1 ∷ []
+-- "1: length not 512 times 1 to 64", "11: length not 512 times 1 to 128": no block, less than one, one and a byte, one too many
+pub lengths :
+    (map policyFault ([] ∷ zeros 511 ∷ zeros 513 ∷ zeros 33280 ∷ []) ∷ map tableLengthFault ([] ∷ zeros 511 ∷ zeros 513 ∷ zeros 66048 ∷ []) ∷ [])
+    ≡ replicate 4 (some (refusal 1 0 0)) ∷ replicate 4 (some (refusal 11 0 0)) ∷ []
 unfolding opened
-policies-good = refl
+lengths = refl
 
--- "2: check", in a block that has the wrong kind, number and total besides
-pub policies-check : policyFault (unsealed (head 9 9 9)) ≡ some (refusal 2 0 0)
-unfolding opened
-policies-check = refl
-
--- "each block in turn": a good block, then one with a wrong check; one with a wrong number, then one with a wrong check
+-- "each block in turn", "numbers within a block upwards": a wrong check in a block with the wrong kind, number and total; a good block, then one with a
+-- wrong check; one with a wrong number, then one with a wrong check. "3: kind, number, total": a table's block, the wrong number, the wrong total
 pub policies-in-turn :
     map policyFault
-    ((whole (ruleBlock 0 2) ++ unsealed (permissionBytes 1 2 0 [])) ∷ (whole (ruleBlock 7 2) ++ unsealed (permissionBytes 1 2 0 [])) ∷ [])
-    ≡ some (refusal 2 1 0) ∷ some (refusal 3 0 0) ∷ []
+    (unsealed (head 9 9 9)
+    ∷ (whole (ruleBlock 0 2) ++ unsealed (permissionBytes 1 2 0 []))
+    ∷ (whole (ruleBlock 7 2) ++ unsealed (permissionBytes 1 2 0 []))
+    ∷ whole (head 2 0 1)
+    ∷ whole (ruleBlock 1 1)
+    ∷ whole (ruleBlock 0 2)
+    ∷ [])
+    ≡ some (refusal 2 0 0) ∷ some (refusal 2 1 0) ∷ replicate 4 (some (refusal 3 0 0))
 unfolding opened
 policies-in-turn = refl
-
--- "The block stores a, then b": both are right, a alone is; b alone is, they are turned round
-pub checks-a : map (λ z. goodCheck (zeros 504 ++ z)) ((bytes4 1 ++ bytes4 126) ∷ (bytes4 1 ++ zeros 4) ∷ []) ≡ true ∷ false ∷ []
-unfolding opened
-checks-a = refl
-
-pub checks-b : map (λ z. goodCheck (zeros 504 ++ z)) ((zeros 4 ++ bytes4 126) ∷ (bytes4 126 ++ bytes4 1) ∷ []) ≡ false ∷ false ∷ []
-unfolding opened
-checks-b = refl
-
--- "3: kind, number, total": a table's block, the wrong number, the wrong total
-pub policies-header : map policyFault (whole (head 2 0 1) ∷ whole (ruleBlock 1 1) ∷ whole (ruleBlock 0 2) ∷ []) ≡ replicate 3 (some (refusal 3 0 0))
-unfolding opened
-policies-header = refl
 
 -- "rule after permission": block 3 after permission blocks 1 and 2; blocks 0 to 2 are well
 pub policies-rule-after-permission :
@@ -456,25 +457,39 @@ pub policies-rule-after-permission :
 unfolding opened
 policies-rule-after-permission = refl
 
--- the same in a policy: its number and block
-pub policies-rule-late : policyBlockFault (whole (permissionBytes 0 2 0 []) ++ whole (ruleBlock 1 2)) 1 ≡ some (refusal 3 1 0)
-unfolding opened
-policies-rule-late = refl
-
 -- "or rule 33", which would be block 32
-pub policies-rule-33 : goodPolicyHeader (flatten (tab (λ k. unsealed (head 1 k 33)) 0 33)) 32 ≡ false
+pub policies-rule-33 : map (goodPolicyHeader (flatten (tab (λ k. unsealed (head 1 k 33)) 0 33))) (31 ∷ 32 ∷ []) ≡ true ∷ false ∷ []
 unfolding opened
 policies-rule-33 = refl
 
+-- "Acceptance returns a policy's rules": of a permission block with no entry; of a rule alone; of a rule and a permission block
+pub policies-good :
+    map checkPolicy
+    (whole (permissionBytes 0 1 0 []) ∷ whole (ruleBlock 0 1) ∷ (whole (ruleBlock 0 2) ++ whole (permissionBytes 1 2 1 (entry 1 2 3))) ∷ [])
+    ≡ accept 0 ∷ accept 1 ∷ accept 1 ∷ []
+unfolding opened
+policies-good = refl
+
+-- what a policy says: "Rule r (from 1) is block r - 1", here with 1 and 2 exclusions, then two permission blocks of one entry each
+pub policies-read :
+    (let p = policyOf (flatten (map unsealed (ruleBytes 0 4 (0 ∷ 1 ∷ []) [] ∷ ruleBytes 1 4 (0 ∷ 2 ∷ []) [] ∷ permissionBytes 2 4 1 (entry 1 2 3) ∷ permissionBytes 3 4 1 (entry 4 5 6) ∷ []))) in
+    (p .rules ∷ p .rule 0 .exclusions ∷ p .rule 1 .exclusions ∷ []) ∷ map (λ e. e .role) (p .permissions) ∷ [])
+    ≡ (2 ∷ 1 ∷ 2 ∷ []) ∷ (1 ∷ 4 ∷ []) ∷ []
+unfolding opened
+policies-read = refl
+
 -- ---- tables
 
--- a policy of one rule: depot (type 1) each; roles m 2 of 1, 2
+-- a policy of one rule: depot (type 1) each; roles m to be said, of 1, 2
+abbrev depotsWith : ℕ → List ℕ
+depotsWith m = whole (ruleBytes 0 1 (1 ∷ 1 ∷ 0 ∷ 0 ∷ 0 ∷ 0 ∷ 0 ∷ 0 ∷ 1 ∷ 0 ∷ 3 ∷ []) (pair m))
+
 abbrev depots : List ℕ
-depots = whole (ruleBytes 0 1 (1 ∷ 1 ∷ 0 ∷ 0 ∷ 0 ∷ 0 ∷ 0 ∷ 0 ∷ 1 ∷ 0 ∷ 3 ∷ []) (pair 2))
+depots = depotsWith 2
 
 -- a table block under it: number, total, count, what stands from byte 24 on
 abbrev tableBytes : ℕ → ℕ → ℕ → List ℕ → List ℕ
-tableBytes k total n rs = head 2 k total ++ bytes2 n ++ zeros 6 ++ sumBytes (stamp depots) ++ rs
+tableBytes k n c rs = head 2 k n ++ bytes2 c ++ zeros 6 ++ sumBytes (stamp depots) ++ rs
 
 -- a record: a context and marks
 abbrev kept : List ℕ → ℕ → List ℕ
@@ -505,27 +520,10 @@ pub records-good :
 unfolding opened
 records-good = refl
 
--- "11: length not 512 times 1 to 128": no block, less than one, one and a byte
-pub tables-of-another-length : map (tableFault depots) ([] ∷ zeros 511 ∷ zeros 513 ∷ []) ≡ replicate 3 (some (refusal 11 0 0))
-unfolding opened
-tables-of-another-length = refl
-
--- a full block is accepted. "Acceptance returns .. a table's records"
-pub tables-good :
-    (let s = whole (tableBytes 0 1 15 (good 15)) in accepting (tableFault depots s) (length (recordsOf s))) ≡ accept 15
+-- "Acceptance returns .. a table's records": a full block
+pub tables-good : checkTable depots (whole (tableBytes 0 1 15 (good 15))) ≡ accept 15
 unfolding opened
 tables-good = refl
-
--- "12: check", in a block that has the wrong kind, number and total besides
-pub tables-check : tableFault depots (unsealed (head 9 9 9)) ≡ some (refusal 12 0 0)
-unfolding opened
-tables-check = refl
-
--- "each block in turn": a full block, then one with a wrong check
-pub tables-in-turn :
-    tableFault depots (whole (tableBytes 0 2 15 (good 15)) ++ unsealed (tableBytes 1 2 1 (good 1))) ≡ some (refusal 12 1 0)
-unfolding opened
-tables-in-turn = refl
 
 -- "13: kind, number, total, count, .. spare bytes": a permission block, a wrong number, a wrong total, 16 records, byte 10, a byte after the records
 pub tables-header :
@@ -534,35 +532,22 @@ pub tables-header :
     ∷ tableBytes 1 1 0 []
     ∷ tableBytes 0 2 0 []
     ∷ tableBytes 0 1 16 (good 15)
-    ∷ (head 2 0 1 ++ bytes2 0 ++ (1 ∷ []))
+    ∷ (head 2 0 1 ++ bytes2 0 ++ (1 ∷ []) ++ zeros 5 ++ sumBytes (stamp depots))
     ∷ tableBytes 0 1 1 (good 1 ++ (1 ∷ []))
     ∷ [])
     ≡ replicate 6 (some (refusal 13 0 0))
 unfolding opened
 tables-header = refl
 
--- "A gap belongs to a block that has records after one with fewer than 15": the second block is full, the first has 15 records or 14
+-- "A gap belongs to a block that has records after one with fewer than 15": which of four blocks have one, by how many records each block has; then the
+-- second block of two, after one of 15 and one of 14
 pub tables-gap :
-    map (λ n. goodTableHeader (unsealed (tableBytes 0 2 n []) ++ unsealed (tableBytes 1 2 15 [])) 1) (15 ∷ 14 ∷ []) ≡ true ∷ false ∷ []
+    (map (λ ns. map (gap (flatten (map (λ n. zeros 8 ++ bytes2 n ++ zeros 502) ns))) (0 ∷ 1 ∷ 2 ∷ 3 ∷ []))
+    ((15 ∷ 15 ∷ 3 ∷ 0 ∷ []) ∷ (15 ∷ 0 ∷ 3 ∷ 0 ∷ []) ∷ (0 ∷ 15 ∷ 15 ∷ 0 ∷ []) ∷ [])
+    ++ (map (λ n. goodTableHeader (unsealed (tableBytes 0 2 n []) ++ unsealed (tableBytes 1 2 15 [])) 1) (15 ∷ 14 ∷ []) ∷ []))
+    ≡ (false ∷ false ∷ false ∷ false ∷ []) ∷ (false ∷ false ∷ true ∷ false ∷ []) ∷ (false ∷ true ∷ true ∷ false ∷ []) ∷ (true ∷ false ∷ []) ∷ []
 unfolding opened
 tables-gap = refl
-
--- which blocks of four have a gap, by how many records each block has
-pub gaps :
-    map (λ ns. map (gap (flatten (map (λ n. zeros 8 ++ bytes2 n ++ zeros 502) ns))) (0 ∷ 1 ∷ 2 ∷ 3 ∷ []))
-    ((15 ∷ 15 ∷ 3 ∷ 0 ∷ []) ∷ (15 ∷ 0 ∷ 3 ∷ 0 ∷ []) ∷ (0 ∷ 15 ∷ 15 ∷ 0 ∷ []) ∷ [])
-    ≡ (false ∷ false ∷ false ∷ false ∷ []) ∷ (false ∷ false ∷ true ∷ false ∷ []) ∷ (false ∷ true ∷ true ∷ false ∷ []) ∷ []
-unfolding opened
-gaps = refl
-
--- "14: stamp": a full block with the stamp of a policy that differs in an exclusion's m; its second record is bad too
-pub tables-stamp :
-    tableFault
-    (whole (ruleBytes 0 1 (1 ∷ 1 ∷ 0 ∷ 0 ∷ 0 ∷ 0 ∷ 0 ∷ 0 ∷ 1 ∷ 0 ∷ 3 ∷ []) (pair 3)))
-    (whole (tableBytes 0 1 15 (good 1 ++ kept [] 0 ++ good 13)))
-    ≡ some (refusal 14 0 0)
-unfolding opened
-tables-stamp = refl
 
 -- "16-23 the stamp, a then b": both are right; a alone is; b alone is; they are turned round
 pub stamps-good :
@@ -572,32 +557,51 @@ pub stamps-good :
 unfolding opened
 stamps-good = refl
 
--- "15: record", the first bad one from 1: the second of 15 is marked for a rule that the policy has not; for one that does not fit
-pub tables-record :
-    map (λ r. tableFault depots (whole (tableBytes 0 1 15 (good 1 ++ r ++ good 13)))) (kept (1 ∷ 5 ∷ []) 2 ∷ kept (2 ∷ 5 ∷ []) 1 ∷ [])
-    ≡ replicate 2 (some (refusal 15 0 2))
+-- "The stamp of a policy is the same sum over all words of its image, checks included": of 128 words, 1, 125 zeros, 2, 3
+pub stamp-of-all-words : stamp (bytes4 1 ++ zeros 500 ++ bytes4 2 ++ bytes4 3) ≡ record { a = 7; b = 263 }
 unfolding opened
-tables-record = refl
+stamp-of-all-words = refl
 
--- "Rows are tested from top to bottom": the policy's before the table's, by the two calls that take both
-pub policy-before-table :
-    (checkTable [] [] ∷ makeTable [] (7 ∷ []) .answer ∷ []) ≡ replicate 2 (refuse (refusal 1 0 0))
+-- "numbers within a block upwards", "the first bad .. record", "each block in turn". A full block whose second record is marked for a rule that does not
+-- fit: with a wrong check, kind and stamp; with a wrong kind and stamp; with the stamp of a policy with another m; with none of these; and, its record
+-- mended, before a block with a wrong check
+pub tables-in-turn :
+    (let bad = good 1 ++ kept (2 ∷ 5 ∷ []) 1 ++ good 13 in
+    tableFault (depotsWith 3) (unsealed (head 9 9 9 ++ zeros 16 ++ bad))
+    ∷ tableFault (depotsWith 3) (whole (head 9 0 1 ++ zeros 16 ++ bad))
+    ∷ tableFault (depotsWith 3) (whole (tableBytes 0 1 15 bad))
+    ∷ tableFault depots (whole (tableBytes 0 1 15 bad))
+    ∷ tableFault depots (whole (tableBytes 0 2 15 (good 15)) ++ unsealed (tableBytes 1 2 1 (good 1)))
+    ∷ [])
+    ≡ some (refusal 12 0 0) ∷ some (refusal 13 0 0) ∷ some (refusal 14 0 0) ∷ some (refusal 15 0 2) ∷ some (refusal 12 1 0) ∷ []
 unfolding opened
-policy-before-table = refl
+tables-in-turn = refl
+
+-- "Records fill the blocks from the front with no gap": 16 records in three blocks, their counts, and the records read back
+pub tables-filled :
+    (let s = tableImage (stamp depots) 3 (replicate 16 (record { request = asked (1 ∷ 5 ∷ []); marks = 1 })) in
+    (map (λ k. count (part s (512 * k) 512)) (0 ∷ 1 ∷ 2 ∷ []) ∷ map (λ r. r .marks) (recordsOf s) ∷ part s 536 32 ∷ []))
+    ≡ (15 ∷ 1 ∷ 0 ∷ []) ∷ replicate 16 1 ∷ good 1 ∷ []
+unfolding opened
+tables-filled = refl
+
+-- ---- the calls
+
+-- "check a table under a policy, make a fresh table in a lent buffer (1 to 6, then 11)": the policy's numbers before the table's
+pub calls-refused :
+    (checkTable [] [] ∷ makeTable [] (7 ∷ []) .answer ∷ makeTable depots (7 ∷ []) .answer ∷ [])
+    ≡ refuse (refusal 1 0 0) ∷ refuse (refusal 1 0 0) ∷ refuse (refusal 11 0 0) ∷ []
+unfolding opened
+calls-refused = refl
 
 -- "a refusal alters nothing lent"
-pub buffer-stays : makeTable [] (7 ∷ []) .state ≡ 7 ∷ []
+pub buffer-stays : makeTable depots (7 ∷ []) .state ≡ 7 ∷ []
 unfolding opened
 buffer-stays = refl
 
--- "A table of B blocks holds at most 15 times B records"
-pub places : map capacity (1 ∷ 2 ∷ 128 ∷ []) ≡ 15 ∷ 30 ∷ 1920 ∷ []
-unfolding opened
-places = refl
-
--- "A fresh table has no record", here of two blocks; the first block's header, with the policy's stamp
+-- "a fresh table's places (15 times B)", "A fresh table has no record": two blocks, each with its number, the total, the policy's stamp and its check
 pub tables-fresh :
-    (let s = freshTable depots 2 in ((length s ∷ length (recordsOf s) ∷ []) ∷ take 24 s ∷ []))
-    ≡ (1024 ∷ 0 ∷ []) ∷ ((2 ∷ 0 ∷ 0 ∷ 0 ∷ 0 ∷ 0 ∷ 2 ∷ 0 ∷ zeros 8) ++ sumBytes (stamp depots)) ∷ []
+    makeTable depots (zeros 1024)
+    ≡ record { answer = accept 30; state = whole (head 2 0 2 ++ zeros 8 ++ sumBytes (stamp depots)) ++ whole (head 2 1 2 ++ zeros 8 ++ sumBytes (stamp depots)) }
 unfolding opened
 tables-fresh = refl

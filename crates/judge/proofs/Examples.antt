@@ -1,30 +1,33 @@
--- Worked examples of the judge: the tally, the verdict of steps 1 to 3, the new table of steps 4 and 5.
+-- Worked examples of the judge: the tally, the verdict of steps 1 to 3, the new table of steps 4 and 5, and decide on bytes. Each is broken by one of this
+-- crate's must-fail edits. No edit alters the sample session (Sample): it is the paper's data, and the fifteen lines are proved of it in crate register.
 -- Assumes nothing.
 use Prim.Native.Nat.{ℕ}
 use mathlib.Core.Path.{_≡_, refl}
 use mathlib.Core.Bool.{Bool, true, false}
 use mathlib.Core.List.{List, [], _∷_, _++_, map, flatten}
 use mathlib.Core.Option.{Option, none, some}
-use lib.ListN.{length, getD, replicate}
+use lib.ListN.{length, getD, drop}
 use Rattle.words.specs.Lists.{keep, anyOf, allBelow, anyBelow, sumBelow, tab, sameList}
 use Rattle.words.specs.First.{_orElse_, unless, first}
 use Rattle.words.specs.Bytes.{bytes2, bytes4, zeros, zeroFrom, bit, bits}
 use Rattle.words.specs.Sums.{sums, addWords, addWord, words}
 use Rattle.format.specs.Answer.{Refusal, refusal, Answer, grant, refuse, Outcome, refusing}
 use Rattle.format.specs.Block.{goodLength, checkOf, goodCheck, sumBytes, sealed}
-use Rattle.format.specs.Request.{Request, hasRole, usedLevel, depthOf, requestFault}
-use Rattle.format.specs.Rule.{Rule, Level, Exclusion, Privilege, Step}
+use Rattle.format.specs.Request.{Request, hasRole, usedLevel, blankLevel, depthOf, goodContext, goodRequest, requestFault}
+use Rattle.format.specs.Rule.{Rule, Level, Exclusion, Privilege, Step, ruleAt, goodMark, goodLevel, blankLevel as blankRuleLevel, goodStep, goodSteps}
+use Rattle.format.specs.Rule.{goodRule, goodRoles, goodPrivileges, goodExclusion, blankExclusion, goodRuleBytes, goodExclusionAt, ruleFault}
 use Rattle.format.specs.Fits.{fits, levelFits, place, placeValue, samePlace}
 use Rattle.format.specs.Policy.{Policy, Permission, goodPermission, goodPermissionBytes, permissionFault, goodPolicyHeader, policyBlockFault}
 use Rattle.format.specs.Policy.{policyFault, ruleCount, permissionsAt, policyOf, stamp}
-use Rattle.format.specs.Table.{Record, goodRecord, recordAt, gap, goodTableHeader, goodStamp, tableBlockFault, tableLengthFault, tableFault}
-use Rattle.format.specs.Table.{recordsOf, blockImage, tableImage, freshTable}
+use Rattle.format.specs.Table.{Record, goodMarks, goodRecord, recordAt, gap, goodTableHeader, goodStamp, tableBlockFault, tableLengthFault, tableFault}
+use Rattle.format.specs.Table.{recordsOf, recordImage, blockImage, tableImage, freshTable}
 use Rattle.judge.specs.Tally.{sameUser, does, countsFor, roleTally, timesListed, timesDone, repeats, privilegeTally, tally, reached, exclusionNumber}
 use Rattle.judge.specs.Tally.{counted}
 use Rattle.judge.specs.Verdict.{grants, permitted, isFirst, isLast, judges, failing, verdict}
 use Rattle.judge.specs.NewTable.{standsIn, openIn, pastIn, ends, gives, recordOf, cleared, sweep, newTable, grantOf, tableAfter, judgeFault}
 use Rattle.judge.specs.NewTable.{judge}
 use Rattle.judge.specs.Decide.{decideFault, decide}
+use Rattle.judge.specs.Sample.{samplePolicy}
 
 -- what these examples compute with
 opened : Unit {0}
@@ -129,6 +132,16 @@ kept marks q = record { request = q; marks = marks }
 
 -- ---- the tally
 
+-- what a request counts for: members 1 on 1, 2 on 1 and 1 on 2, as roles 1, 2, 1 (kind 1) and as privileges (kind 2). Roles {2} doing 1 on 1 counts for the
+-- role 2 and for the privilege 1 on 1; roles {1} doing 1 on 2 counts for both roles 1 and for the privilege 1 on 2
+pub counts-for :
+    map (λ k. map (λ q. tab (λ i. countsFor (exclusion k 2 (privilege 1 1 ∷ privilege 2 1 ∷ privilege 1 2 ∷ [])) i q) 0 3)
+    (request 7 2 1 1 business ∷ request 7 1 1 2 business ∷ []))
+    (1 ∷ 2 ∷ [])
+    ≡ ((false ∷ true ∷ false ∷ []) ∷ (true ∷ false ∷ true ∷ []) ∷ []) ∷ ((true ∷ false ∷ false ∷ []) ∷ (false ∷ false ∷ true ∷ []) ∷ []) ∷ []
+unfolding opened
+counts-for = refl
+
 -- "how many member roles appear among all their active roles": of 1, 2, over requests with these roles: none, {1}, {1} twice, {1} and {2}, {1,2}, {3}
 pub roles-counted :
     map (λ ks. tally (roles 2 (1 ∷ 2 ∷ [])) (map (λ k. request 7 k 1 1 business) ks))
@@ -145,14 +158,6 @@ pub privileges-counted :
     ≡ 0 ∷ 1 ∷ 1 ∷ 1 ∷ 2 ∷ 2 ∷ 3 ∷ 0 ∷ []
 unfolding opened
 privileges-counted = refl
-
--- a privilege is an operation and a target: 1 on 1 and 1 on 2 are two, and 1 on 3 is neither
-pub targets-counted :
-    map (λ ts. tally (exclusion 2 2 (privilege 1 1 ∷ privilege 1 2 ∷ [])) (map (λ t. request 7 1 1 t business) ts))
-    ((1 ∷ 1 ∷ []) ∷ (1 ∷ 2 ∷ []) ∷ (3 ∷ []) ∷ [])
-    ≡ 1 ∷ 2 ∷ 0 ∷ []
-unfolding opened
-targets-counted = refl
 
 -- "At m or more": m is 2, the tally 1, 2 and 3
 pub reached-at-m :
@@ -195,19 +200,16 @@ pub silent-or-not :
 unfolding opened
 silent-or-not = refl
 
--- a step is an operation and a target: 5 on target 2 does not begin, 4 on target 2 does not close
-pub steps-by-target :
-    (map (λ t. isFirst (trial .rule 1) (request 10 4 5 t (depot 5))) (1 ∷ 2 ∷ [])
-    ∷ map (λ t. isLast (trial .rule 0) (request 8 2 4 t (job 5 90))) (1 ∷ 2 ∷ [])
+-- a step is an operation and a target: 5 on target 2 does not begin, 4 on target 2 does not close, and 5 is not 4. A step that is not set is none: not even 0
+-- on 0
+pub steps-taken :
+    (map (isFirst (trial .rule 1)) (begin 10 (depot 5) ∷ request 10 4 5 2 (depot 5) ∷ close 10 (depot 5) ∷ [])
+    ∷ map (isLast (trial .rule 0)) (close 8 (job 5 90) ∷ request 8 2 4 2 (job 5 90) ∷ begin 8 (job 5 90) ∷ [])
+    ∷ map (isFirst (trial .rule 0)) (request 7 1 0 0 (job 5 90) ∷ [])
     ∷ [])
-    ≡ (true ∷ false ∷ []) ∷ (true ∷ false ∷ []) ∷ []
+    ≡ (true ∷ false ∷ false ∷ []) ∷ (true ∷ false ∷ false ∷ []) ∷ (false ∷ []) ∷ []
 unfolding opened
-steps-by-target = refl
-
--- an unset step is no step: 0 on 0 is not rule 1's first, nor is any other
-pub steps-unset : map (λ o. isFirst (trial .rule 0) (request 7 1 o o (job 5 90))) (0 ∷ 1 ∷ []) ≡ false ∷ false ∷ []
-unfolding opened
-steps-unset = refl
+steps-taken = refl
 
 -- "The first failing exclusion ends the search through rules and exclusions", with "rule, exclusion": rule a fails in its second, rule b in both, or,
 -- with nothing past, in its first alone. In turn: a, b; b, a; a, b with nothing past; a rule that does not fit, a
@@ -223,37 +225,18 @@ pub first-failing :
 unfolding opened
 first-failing = refl
 
--- "marked for that rule": 7 adjusted this job, which rule 1 counts if its past has it, and not if only rule 2's has
-pub past-by-rule :
-    map (λ pasts. verdict trial (check 7 (job 5 90)) (λ i. false) (λ i. getD pasts i []))
-    (((adjust 7 (job 5 90) ∷ []) ∷ [] ∷ []) ∷ ([] ∷ (adjust 7 (job 5 90) ∷ []) ∷ []) ∷ [])
-    ≡ some (refusal 33 1 1) ∷ none ∷ []
-unfolding opened
-past-by-rule = refl
-
--- a last step is counted against its own doer: 7, who adjusted, may not close; 8 may
-pub last-step-counted :
-    (let p = policy (rule [] unset (step 4) (operations 2 (1 ∷ 4 ∷ []) ∷ []) ∷ []) in
-    map (λ u. verdict p (close u business) (λ i. true) (λ i. adjust 7 business ∷ [])) (7 ∷ 8 ∷ []))
-    ≡ some (refusal 33 1 1) ∷ none ∷ []
-unfolding opened
-last-step-counted = refl
-
 -- ---- the records that are counted, read off a table
 
 -- "records marked for that rule in that run place": 7 adjusted job 90 at depot 5, and checks it there; at depot 6 ("every"); checks job 91 ("each");
--- 8 checks job 90
+-- 8 checks job 90. Then the same adjustment marked for rule 2 alone, as when its job was closed since: rule 1 does not count it
 pub counted-in-its-place :
-    map (λ q. judge trial 15 (kept 1 (adjust 7 (job 5 90)) ∷ []) q .answer)
+    (map (λ q. judge trial 15 (kept 1 (adjust 7 (job 5 90)) ∷ []) q .answer)
     (check 7 (job 5 90) ∷ check 7 (job 6 90) ∷ check 7 (job 5 91) ∷ check 8 (job 5 90) ∷ [])
-    ≡ refuse (refusal 33 1 1) ∷ refuse (refusal 33 1 1) ∷ grant 1 0 2 ∷ grant 1 0 2 ∷ []
+    ∷ (judge trial 15 (kept 2 (adjust 7 (job 5 90)) ∷ []) (check 7 (job 5 90)) .answer ∷ [])
+    ∷ [])
+    ≡ (refuse (refusal 33 1 1) ∷ refuse (refusal 33 1 1) ∷ grant 1 0 2 ∷ grant 1 0 2 ∷ []) ∷ (grant 1 0 2 ∷ []) ∷ []
 unfolding opened
 counted-in-its-place = refl
-
--- the same adjustment marked for rule 2 alone, as when its job was closed since: rule 1 does not count it
-pub counted-if-marked : judge trial 15 (kept 2 (adjust 7 (job 5 90)) ∷ []) (check 7 (job 5 90)) .answer ≡ grant 1 0 2
-unfolding opened
-counted-if-marked = refl
 
 -- rule 2 judges where its run place is open: 10, who began the count of depot 5, adjusts at depot 5 and at depot 6
 pub open-in-its-place :
@@ -293,26 +276,13 @@ pub close-one-job :
 unfolding opened
 close-one-job = refl
 
--- a last step of rule 2 clears rule 2's marks at depot 5, not those at depot 6, and no mark of rule 1
-pub end-one-count :
-    judge trial 15
-    (kept 2 (begin 10 (depot 5)) ∷ kept 2 (begin 10 (depot 6)) ∷ kept 3 (adjust 11 (job 5 92)) ∷ kept 3 (adjust 11 (job 6 93)) ∷ [])
-    (end 13 (depot 5))
-    ≡ record { answer = grant 0 1 3; state = kept 2 (begin 10 (depot 6)) ∷ kept 1 (adjust 11 (job 5 92)) ∷ kept 3 (adjust 11 (job 6 93)) ∷ [] }
+-- "each judging rule whose last step this is": a close at no depot fits no "depot every", so it ends nothing there; a close at a depot does
+pub ends-if-it-judges :
+    (let p = policy (rule (every 1 ∷ []) unset (step 4) (roles 2 (1 ∷ 2 ∷ []) ∷ []) ∷ []) in
+    map (judge p 15 (kept 1 (adjust 7 (depot 5)) ∷ [])) (close 12 business ∷ close 12 (depot 6) ∷ []))
+    ≡ record { answer = grant 0 0 1; state = kept 1 (adjust 7 (depot 5)) ∷ [] } ∷ record { answer = grant 0 1 0; state = [] } ∷ []
 unfolding opened
-end-one-count = refl
-
--- a last step of rule 2 in a job is recorded for rule 1
-pub end-in-a-job :
-    judge trial 15 (kept 2 (begin 10 (depot 5)) ∷ []) (end 13 (job 5 92)) ≡ record { answer = grant 1 1 1; state = kept 1 (end 13 (job 5 92)) ∷ [] }
-unfolding opened
-end-in-a-job = refl
-
--- the last step of a silent rule is none: no count of depot 5 was begun
-pub end-of-no-count :
-    judge trial 15 (kept 2 (begin 10 (depot 6)) ∷ []) (end 13 (depot 5)) ≡ record { answer = grant 0 0 1; state = kept 2 (begin 10 (depot 6)) ∷ [] }
-unfolding opened
-end-of-no-count = refl
+ends-if-it-judges = refl
 
 -- trap "opening a run by a refused first step": {1,3} may not begin, so the table stays empty, and 10 adjusts at the depot unjudged and unrecorded
 pub refused-first-step :
@@ -321,68 +291,66 @@ pub refused-first-step :
 unfolding opened
 refused-first-step = refl
 
--- the same with a first step that is granted: the run is open, and 10 may not adjust
-pub granted-first-step :
-    (let o = judge trial 15 [] (begin 10 (depot 5)) in (o .answer ∷ judge trial 15 (o .state) (adjust 10 (depot 5)) .answer ∷ []))
-    ≡ grant 1 0 1 ∷ refuse (refusal 32 2 1) ∷ []
-unfolding opened
-granted-first-step = refl
+-- ---- step 5
 
--- ---- step 5, with room for two records
-
--- a full table: 7 adjusted job 90, 10 began the count of depot 5
+-- a full block of 15 records: 7 adjusted job 90, 10 began the count of depot 5, and thirteen more jobs were adjusted at depot 6
 abbrev full : List Record
-full = kept 1 (adjust 7 (job 5 90)) ∷ kept 2 (begin 10 (depot 5)) ∷ []
+full = kept 1 (adjust 7 (job 5 90)) ∷ kept 2 (begin 10 (depot 5)) ∷ tab (λ j. kept 1 (adjust 8 (job 6 j))) 1 13
 
 -- trap "testing fullness before clearing": closing job 90 removes a record and is recorded for rule 2
 pub full-and-cleared :
-    judge trial 2 full (close 12 (job 5 90))
-    ≡ record { answer = grant 1 1 2; state = kept 2 (begin 10 (depot 5)) ∷ kept 2 (close 12 (job 5 90)) ∷ [] }
+    judge trial 15 full (close 12 (job 5 90)) ≡ record { answer = grant 1 1 15; state = drop 1 full ++ (kept 2 (close 12 (job 5 90)) ∷ []) }
 unfolding opened
 full-and-cleared = refl
 
--- "5. If that exceeds the table, 34, and the old table stays": closing job 91 removes none and would be recorded; with room for three it is
+-- "15 held in one block and a sixteenth request that would be marked and removes none gives 34, an unmarked one is granted": a close of job 91, with room
+-- for 15 and for 16; a check for the whole business
 pub full-and-not-cleared :
-    (judge trial 2 full (close 12 (job 5 91)) ∷ judge trial 3 full (close 12 (job 5 91)) ∷ [])
+    (judge trial 15 full (close 12 (job 5 91)) ∷ judge trial 16 full (close 12 (job 5 91)) ∷ judge trial 15 full (check 12 business) ∷ [])
     ≡ record { answer = refuse (refusal 34 0 0); state = full }
-    ∷ record { answer = grant 1 0 3; state = full ++ (kept 2 (close 12 (job 5 91)) ∷ []) }
+    ∷ record { answer = grant 1 0 16; state = full ++ (kept 2 (close 12 (job 5 91)) ∷ []) }
+    ∷ record { answer = grant 0 0 15; state = full }
     ∷ []
 unfolding opened
 full-and-not-cleared = refl
 
--- "an unmarked one is granted": a check for the whole business
-pub full-and-unmarked : judge trial 2 full (check 12 business) ≡ record { answer = grant 0 0 2; state = full }
-unfolding opened
-full-and-unmarked = refl
-
 -- the judge's numbers "in its own order", each leaving the table as it was: 31; 33 and 32 before 34; 34
 pub refusals-keep-the-table :
-    map (judge trial 2 full) (request 7 1 2 1 (job 5 90) ∷ check 7 (job 5 90) ∷ adjust 10 (job 5 91) ∷ adjust 11 (job 5 91) ∷ [])
+    map (judge trial 15 full) (request 7 1 2 1 (job 5 90) ∷ check 7 (job 5 90) ∷ adjust 10 (job 5 91) ∷ adjust 11 (job 5 91) ∷ [])
     ≡ map (λ r. record { answer = refuse r; state = full }) (refusal 31 0 0 ∷ refusal 33 1 1 ∷ refusal 32 2 1 ∷ refusal 34 0 0 ∷ [])
 unfolding opened
 refusals-keep-the-table = refl
 
 -- ---- decide, on bytes
 
--- what these two compute with besides
+-- what these compute with besides
 openedBytes : Unit {0}
-unfolding flatten zeroFrom sums addWords addWord words goodLength checkOf goodCheck sumBytes sealed requestFault goodPermission goodPermissionBytes
-    permissionFault goodPolicyHeader policyBlockFault policyFault ruleCount permissionsAt policyOf stamp goodRecord recordAt gap goodTableHeader
-    goodStamp tableBlockFault tableLengthFault tableFault recordsOf blockImage tableImage freshTable decideFault decide
+unfolding flatten zeroFrom sums addWords addWord words goodLength checkOf goodCheck sumBytes sealed blankLevel goodContext goodRequest requestFault ruleAt
+    goodMark goodLevel blankRuleLevel goodStep goodSteps goodRule goodRoles goodPrivileges goodExclusion blankExclusion goodRuleBytes goodExclusionAt
+    ruleFault goodPermission goodPermissionBytes permissionFault goodPolicyHeader policyBlockFault policyFault ruleCount permissionsAt policyOf stamp
+    goodMarks goodRecord recordAt gap goodTableHeader goodStamp tableBlockFault tableLengthFault tableFault recordsOf recordImage blockImage tableImage
+    freshTable samplePolicy decideFault decide
 openedBytes = tt
 
--- a policy of no rule, where nobody may do anything: a permission block with no entry
-abbrev nobody : List ℕ
-nobody = sealed (bytes4 3 ++ bytes2 0 ++ bytes2 1 ++ zeros 496)
-
--- "Rows are tested from top to bottom": of three empty inputs the policy gets its number, then the table, then the request
+-- "Rows are tested from top to bottom": of three empty inputs the policy gets its number, then the table, then the request; then the judge's 31, to 8, who
+-- may not check in role 1. "a refusal alters nothing lent": a table of two bytes stays as it is
 pub rows-in-order :
-    (decide [] [] [] .answer ∷ decide nobody [] [] .answer ∷ decide nobody (freshTable nobody 1) [] .answer ∷ [])
-    ≡ refuse (refusal 1 0 0) ∷ refuse (refusal 11 0 0) ∷ refuse (refusal 21 0 0) ∷ []
+    (decide [] (7 ∷ 8 ∷ []) []
+    ∷ decide samplePolicy (7 ∷ 8 ∷ []) []
+    ∷ decide samplePolicy (freshTable samplePolicy 1) []
+    ∷ decide samplePolicy (freshTable samplePolicy 1) (request 8 1 2 1 (job 5 90))
+    ∷ [])
+    ≡ record { answer = refuse (refusal 1 0 0); state = 7 ∷ 8 ∷ [] }
+    ∷ record { answer = refuse (refusal 11 0 0); state = 7 ∷ 8 ∷ [] }
+    ∷ record { answer = refuse (refusal 21 0 0); state = freshTable samplePolicy 1 }
+    ∷ record { answer = refuse (refusal 31 0 0); state = freshTable samplePolicy 1 }
+    ∷ []
 unfolding opened openedBytes
 rows-in-order = refl
 
--- "a refusal alters nothing lent": a table of two bytes stays as it is
-pub refusal-keeps-the-bytes : decide [] (7 ∷ 8 ∷ []) [] ≡ record { answer = refuse (refusal 1 0 0); state = 7 ∷ 8 ∷ [] }
+-- a grant in bytes, the first of the sample session: "1 grant 1 0 1", and the table of two blocks then has the record, marked for rule 1, in its first
+pub grant-in-bytes :
+    decide samplePolicy (freshTable samplePolicy 2) (adjust 7 (job 5 90))
+    ≡ record { answer = grant 1 0 1; state = tableImage (stamp samplePolicy) 2 (kept 1 (adjust 7 (job 5 90)) ∷ []) }
 unfolding opened openedBytes
-refusal-keeps-the-bytes = refl
+grant-in-bytes = refl
