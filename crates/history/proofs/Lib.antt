@@ -1,2 +1,2 @@
-pub mod TakingIn
+pub mod Turns
 pub mod Standing

@@ -1,181 +1,162 @@
--- Where the records of a table stand, and what a pass over them finds, record by record.
+-- What a pass over a table's records finds is what the judge asks of them: which run places are open, and what the user did there.
 -- Assumes nothing.
-use Prim.Native.Nat.{ℕ, _+_, _-_, _<_, _≤_, min}
-use native.Mathlib.Nat.{zero-add, add-zero}
-use native.Mathlib.Numerals.{add-one}
+use Prim.Native.Nat.{ℕ, _+_, _<_, _≤_}
 use native.Mathlib.Decide.{decLt}
 use native.Mathlib.Omega.{arith}
 use mathlib.Core.Path.{_≡_, refl, sym, ap, ap₂, _∙_}
-use mathlib.Core.Bool.{Bool, true, false, cond, not, _&&_, _||_, false≢true, or-false}
-use mathlib.Core.List.{List, [], _∷_, _++_}
+use mathlib.Core.Bool.{Bool, true, false, not, _&&_, _||_, false≢true}
+use mathlib.Core.List.{List, [], _∷_, map}
 use mathlib.Core.Option.{none}
-use lib.ListN.{length, getD, replicate, length-append, getD-replicate}
-use lib.Bits.{bitAnd, bitOr}
+use borrow.Author.Tests.{eqb-true}
+use lib.Bits.{bitAnd}
 use lib.Dec.{eqb}
+use lib.ListN.{length, getD}
 use Rattle.words.specs.Bytes.{part, bit}
-use Rattle.words.specs.Lists.{keep, anyOf, sumBelow}
-use Rattle.word_laws.proofs.Keep.{keep-append, anyOf-append}
-use Rattle.format.specs.Layout.{requestBytes}
-use Rattle.format.specs.Request.{Request, user, roles}
+use Rattle.words.specs.Lists.{keep, anyOf, tab}
+use Rattle.word_laws.proofs.Bits.{bit-none, bit-bits, bit-beyond, bits-same}
+use Rattle.word_laws.proofs.BitLaws.{bit-and, bit-or, bit-without}
+use Rattle.word_laws.proofs.Every.{Every, every-all, every-map, every-tab, every-keep, every-getD, keep-same}
+use Rattle.word_laws.proofs.Keep.{keep-keep, keep-map, map-map}
+use Rattle.word_laws.proofs.Lists.{map-tab}
+use Rattle.word_laws.proofs.Parts.{u16At-part}
+use Rattle.format.specs.Layout.{requestBytes, recordBytes}
 use Rattle.format.specs.Block.{block}
+use Rattle.format.specs.Request.{Request, user, operation}
 use Rattle.format.specs.Rule.{ruleAt}
 use Rattle.format.specs.Fits.{fits, samePlace}
-use Rattle.format.specs.Policy.{Policy, policyFault, policyOf, ruleCount}
-use Rattle.format.specs.Table.{Record}
+use Rattle.format.specs.Policy.{policyFault, policyOf, ruleCount}
+use Rattle.format.specs.Table.{Record, marked}
 use Rattle.format.specs.Place.{recordPlace, recordFrom, recordHere, recordsHere}
 use Rattle.judge.specs.Tally.{sameUser}
-use Rattle.judge.specs.NewTable.{standsIn}
-use Rattle.places.specs.declared.masks.Each.{Each}
-use Rattle.places.specs.Masks.{EachOf, apartIn, apartBy}
-use Rattle.places.proofs.Apart.{apart-is}
-use Rattle.table_write.proofs.Parts.{tab-more}
-use Rattle.request_check.specs.RequestWords.{doneWord}
-use Rattle.tally.specs.Code.{timesIn}
-use Rattle.history.specs.Code.{HasRoom, TakenIn, fittingIn, countsFor, Scanned}
-use Rattle.word_laws.proofs.Bits.{bit-none, bit-bits, bit-beyond}
-use Rattle.word_laws.proofs.BitLaws.{bit-or, bit-and, bit-without}
+use Rattle.judge.specs.Verdict.{judges}
+use Rattle.judge.specs.NewTable.{standsIn, openIn, pastIn}
+use Rattle.fields.specs.Code.{HasRoom}
+use Rattle.matching.specs.declared.masks.Each.{Each}
+use Rattle.matching.specs.Masks.{EachOf, apartIn, apartBy}
+use Rattle.matching.specs.Sets.{fittingIn, judgingIn}
+use Rattle.matching.proofs.Apart.{apart-is}
+use Rattle.history.specs.Code.{sharedBy, openBy, mayCount, foundIn, standsBy, pastBy}
+use Rattle.history.proofs.Turns.{place-inside}
 
--- where a record of the table stands
-module _ (table : List ℕ) (n : ℕ) (room : HasRoom table n) where
-  pub room-few : n ≤ 1920
-  room-few = omega arith
-
-  pub place-inside : (k : ℕ) → k < n → recordPlace k + 32 ≤ length table
-  place-inside k h = omega arith
-
-pub records-more : (table : List ℕ) (k : ℕ) → recordsHere table (k + 1) ≡ recordsHere table k ++ (recordHere table k ∷ [])
-unfolding recordsHere
-records-more table k = rw (add-one k, tab-more (recordHere table) 0 k, zero-add k)
-
--- ---- the rules that the request fits
-
-module _ (policy : List ℕ) (q : Request) (fitting : ℕ) (same : fitting ≡ fittingIn (policyOf policy) q) where
-  pub bit-fits : (i : ℕ) → i < ruleCount policy → bit i fitting ≡ fits (ruleAt (block policy i)) q
+-- under an accepted policy, for the rules that the request fits
+module _
+    (policy : List ℕ) (accepted : policyFault policy ≡ none) (e : Each) (is : EachOf (policyOf policy) e) (q : Request) (fitting : ℕ)
+    (fitting-are : fitting ≡ fittingIn (policyOf policy) q) where
+  fitting-bit : (i : ℕ) → i < ruleCount policy → bit i fitting ≡ fits (ruleAt (block policy i)) q
   unfolding fittingIn policyOf
-  bit-fits i h = ap (bit i) same ∙ bit-bits (ruleCount policy) _ i h
-
-  no-rule : (i : ℕ) → ruleCount policy ≤ i → bit i fitting ≡ false
-  unfolding fittingIn policyOf
-  no-rule i h = ap (bit i) same ∙ bit-beyond (ruleCount policy) _ i h
+  fitting-bit i h = ap (bit i) fitting-are ∙ bit-bits (ruleCount policy) _ i h
 
   fitting-below : (i : ℕ) → bit i fitting ≡ true → i < ruleCount policy
-  fitting-below i e = go (decLt i (ruleCount policy))
+  unfolding fittingIn policyOf
+  fitting-below i f = go (decLt i (ruleCount policy))
     where
       go : Dec (i < ruleCount policy) → i < ruleCount policy
       go (yes h) = h
-      go (no h) = absurd (false≢true (sym (no-rule i (omega arith)) ∙ e))
+      go (no h) = absurd (false≢true (sym (ap (bit i) fitting-are ∙ bit-beyond (ruleCount policy) _ i (omega arith)) ∙ f))
 
-  -- what the code shares out to a record is what stands in the request's run place
-  pub shared-stands :
-      policyFault policy ≡ none → (e : Each) → EachOf (policyOf policy) e → (r : Record) (shared : ℕ)
-      → shared ≡ bitAnd (r .marks) fitting - bitAnd (bitAnd (r .marks) fitting) (apartBy e q (r .request))
-      → (i : ℕ) → bit i fitting ≡ true → bit i shared ≡ standsIn (policyOf policy) q i r
-  unfolding standsIn apartIn policyOf
-  shared-stands accepted e is r shared f i h =
-      ap (bit i) f
-      ∙ bit-without i (bitAnd (r .marks) fitting) (apartBy e q (r .request))
-      ∙ rw (bit-and i (r .marks) fitting, h, apart-is policy accepted e is q (r .request)) (rw (bit-bits (ruleCount policy) (λ j. not (samePlace (ruleAt (block policy j)) q (r .request))) i (fitting-below i h)) (both (bit i (r .marks)) (samePlace (ruleAt (block policy i)) q (r .request))))
+  -- ---- a record
+
+  module _ (i : ℕ) (f : bit i fitting ≡ true) (r : Record) where
+    stands-is : standsBy e q i r ≡ standsIn (policyOf policy) q i r
+    unfolding standsBy standsIn apartIn policyOf
+    stands-is =
+        ap (λ (b : Bool). marked i r && b)
+        (ap not (ap (bit i) (apart-is policy accepted e is q (r .request)) ∙ bit-bits (ruleCount policy) (λ j. not (samePlace (ruleAt (block policy j)) q (r .request))) i (fitting-below i f))
+        ∙ twice (samePlace (ruleAt (block policy i)) q (r .request)))
+      where
+        twice : (b : Bool) → not (not b) ≡ b
+        twice true = refl
+        twice false = refl
+
+    shared-bit : bit i (sharedBy e fitting q r) ≡ standsBy e q i r
+    unfolding sharedBy standsBy
+    shared-bit =
+        bit-without i (bitAnd (r .marks) fitting) (apartBy e q (r .request))
+        ∙ ap (λ (b : Bool). b && not (bit i (apartBy e q (r .request)))) (bit-and i (r .marks) fitting ∙ ap (λ (b : Bool). bit i (r .marks) && b) f ∙ both (bit i (r .marks)))
+      where
+        both : (b : Bool) → b && true ≡ b
+        both true = refl
+        both false = refl
+
+    -- the user's records that are marked for the rule in its run place are among those found
+    counts-is : mayCount e fitting q r && standsBy e q i r ≡ standsIn (policyOf policy) q i r && sameUser (user q) (r .request)
+    unfolding mayCount
+    counts-is = go (standsBy e q i r) (sameUser (user q) (r .request)) (eqb (sharedBy e fitting q r) 0) refl refl ∙ ap (λ (b : Bool). b && sameUser (user q) (r .request)) stands-is
+      where
+        go : (b u z : Bool) → standsBy e q i r ≡ b → eqb (sharedBy e fitting q r) 0 ≡ z → (not z && u) && b ≡ b && u
+        go true u true g h = absurd (false≢true (sym (bit-none i) ∙ ap (bit i) (sym (eqb-true (sharedBy e fitting q r) 0 h)) ∙ shared-bit ∙ g))
+        go true true false g h = refl
+        go true false false g h = refl
+        go false true true g h = refl
+        go false false true g h = refl
+        go false true false g h = refl
+        go false false false g h = refl
+
+  -- ---- which run places are open
+
+  pub open-is : (i : ℕ) → bit i fitting ≡ true → (rs : List Record) → bit i (openBy e fitting q rs) ≡ openIn (policyOf policy) rs q i
+  unfolding openBy openIn anyOf
+  open-is i f [] = bit-none i
+  open-is i f (r ∷ rs) =
+      bit-or i (sharedBy e fitting q r) (openBy e fitting q rs) ∙ ap₂ {C = Bool} _||_ (shared-bit i f r ∙ stands-is i f r) (open-is i f rs)
+
+  -- so the same rules judge
+  pub judging-same : (rs : List Record) → judgingIn (policyOf policy) q (λ i. bit i (openBy e fitting q rs)) ≡ judgingIn (policyOf policy) q (openIn (policyOf policy) rs q)
+  unfolding judgingIn judges policyOf
+  judging-same rs =
+      bits-same (ruleCount policy) (λ i. judges (ruleAt (block policy i)) q (bit i (openBy e fitting q rs))) (λ i. judges (ruleAt (block policy i)) q (openIn (policyOf policy) rs q i))
+      (λ i h. go i h (fits (ruleAt (block policy i)) q) refl)
     where
-      both : (m s : Bool) → (m && true) && not (not s) ≡ m && s
-      both true true = refl
-      both true false = refl
-      both false s = refl
+      go : (i : ℕ) → i < ruleCount policy → (b : Bool) → fits (ruleAt (block policy i)) q ≡ b
+          → judges (ruleAt (block policy i)) q (bit i (openBy e fitting q rs)) ≡ judges (ruleAt (block policy i)) q (openIn (policyOf policy) rs q i)
+      go i h true f = ap (judges (ruleAt (block policy i)) q) (open-is i (fitting-bit i h ∙ f) rs)
+      go i h false f = rw f
 
--- ---- one element more
+  -- ---- what the user did there
 
-module _ {A : Type 0} (t : A → Bool) (xs : List A) (x : A) where
-  count-snoc : length (keep t (xs ++ (x ∷ []))) ≡ length (keep t xs) + cond (t x) 1 0
-  unfolding keep
-  count-snoc = ap length (keep-append t xs (x ∷ [])) ∙ length-append (keep t xs) _ ∙ ap (λ (k : ℕ). length (keep t xs) + k) (go (t x))
+  pub past-is :
+      (i : ℕ) → bit i fitting ≡ true → (s : List ℕ) (n : ℕ)
+      → pastBy e q i s (foundIn e fitting q s n) ≡ keep (sameUser (user q)) (pastIn (policyOf policy) (recordsHere s n) q i)
+  unfolding pastBy foundIn pastIn recordsHere
+  past-is i f s n =
+      ap (map (λ at. part s at requestBytes)) (keep-keep (λ at. mayCount e fitting q (recordFrom s at)) (λ at. standsBy e q i (recordFrom s at)) (tab recordPlace 0 n) ∙ same)
+      ∙ sym (map-map (recordFrom s) (λ r. r .request) (keep (λ at. both (recordFrom s at)) (tab recordPlace 0 n)))
+      ∙ ap (map (λ (r : Record). r .request)) (sym (keep-map (recordFrom s) both (tab recordPlace 0 n)) ∙ ap (keep both) (map-tab (recordFrom s) recordPlace 0 n))
+      ∙ sym (keep-map (λ (r : Record). r .request) (sameUser (user q)) (keep (standsIn (policyOf policy) q i) (tab (recordHere s) 0 n))
+      ∙ ap (map (λ (r : Record). r .request)) (keep-keep (standsIn (policyOf policy) q i) (λ r. sameUser (user q) (r .request)) (tab (recordHere s) 0 n)))
     where
-      go : (b : Bool) → length (cond b (x ∷ []) []) ≡ cond b 1 0
-      go true = refl
-      go false = refl
+      both : Record → Bool
+      both r = standsIn (policyOf policy) q i r && sameUser (user q) (r .request)
 
-  any-snoc : anyOf t (xs ++ (x ∷ [])) ≡ anyOf t xs || t x
-  unfolding anyOf
-  any-snoc = anyOf-append t xs (x ∷ []) ∙ ap (λ (b : Bool). anyOf t xs || b) (go (t x))
-    where
-      go : (b : Bool) → b || false ≡ b
-      go true = refl
-      go false = refl
+      same : keep (λ at. mayCount e fitting q (recordFrom s at) && standsBy e q i (recordFrom s at)) (tab recordPlace 0 n) ≡ keep (λ at. both (recordFrom s at)) (tab recordPlace 0 n)
+      same = keep-same _ _ (every-all _ (λ at. counts-is i f (recordFrom s at)) (tab recordPlace 0 n))
 
--- numbers alike up to 15 are so with as much more
-pub more-alike : (x y c : ℕ) → min 15 x ≡ min 15 y → min 15 (x + c) ≡ min 15 (y + c)
-more-alike x y c e = omega arith
+-- ---- of any records found
 
--- ---- the pass
+-- a request among bytes has an operation of two bytes
+pub past-small :
+    (e : Each) (q : Request) (i : ℕ) (s found : List ℕ) → ((k : ℕ) → getD s k 0 < 256)
+    → (j : ℕ) → j < length (pastBy e q i s found) → operation (getD (pastBy e q i s found) j []) < 65536
+unfolding pastBy
+past-small e q i s found bytes j h =
+    every-getD {P = Few} [] j (every-map (λ at. part s at requestBytes) (λ at p. p) (every-all Small small (keep (λ at. standsBy e q i (recordFrom s at)) found))) h
+  where
+    Few : Request → Type 0
+    Few r = operation r < 65536
 
-module _ (p : Policy) (q : Request) (mask : ℕ) where
-  pub scan-start : (groups : List ℕ) → Scanned p q mask 0 (replicate 32 0) groups 0 []
-  unfolding anyOf keep timesIn sumBelow
-  scan-start groups =
-      record {
-        isOpen = λ i h. bit-none i;
-        allRoles = λ i h k l. ap (bit i) (getD-replicate 32 k 0 0 l) ∙ bit-none i;
-        allTimes = λ i h d. refl;
-      }
+    Small : ℕ → Type 0
+    Small at = Few (part s at requestBytes)
 
-  pub scan-turn :
-      (opens shared ever full : ℕ) (oldActive old : List ℕ) (g : ℕ) (active new : List ℕ) (h : ℕ) (rs : List Record) (x : Record)
-      → Scanned p q mask opens oldActive old g rs
-      → ((i : ℕ) → bit i mask ≡ true → bit i shared ≡ standsIn p q i x)
-      → TakenIn (sameUser (user q) (x .request)) shared (roles (x .request)) (doneWord (x .request)) oldActive old g ever full active new h
-      → Scanned p q mask (bitOr opens shared) active new h (rs ++ (x ∷ []))
-  unfolding countsFor
-  scan-turn opens shared ever full oldActive old g active new h rs x s is grown =
-      record {
-        isOpen =
-            λ i m.
-            bit-or i opens shared ∙ ap₂ {C = Bool} _||_ (s .isOpen i m) (is i m) ∙ sym (any-snoc (standsIn p q i) rs x);
-        allRoles =
-            λ i m k l.
-            grown .allRoles k l i
-            ∙ ap₂ {C = Bool} (λ a b. a || (b && (sameUser (user q) (x .request) && bit k (roles (x .request))))) (s .allRoles i m k l) (is i m)
-            ∙ sym (any-snoc (countsFor p q i (λ r. bit k (roles r))) rs x);
-        allTimes =
-            λ i m d.
-            grown .allTimes i d
-            ∙ more-alike (timesIn old i d g) (length (keep (countsFor p q i (λ r. eqb (doneWord r) d)) rs)) _ (s .allTimes i m d)
-            ∙ ap (λ (b : Bool). min 15 (length (keep (countsFor p q i (λ r. eqb (doneWord r) d)) rs) + cond (b && (sameUser (user q) (x .request) && eqb (doneWord (x .request)) d)) 1 0)) (is i m)
-            ∙ ap (min 15) (sym (count-snoc (countsFor p q i (λ r. eqb (doneWord r) d)) rs x));
-      }
+    small : (at : ℕ) → Small at
+    small at = omega (arith, u16At-part s at requestBytes 8 (omega arith), bytes (at + 8), bytes (at + 8 + 1))
 
-  -- at record k of a table
-  pub scan-record :
-      (table : List ℕ) (k at opens shared ever full : ℕ) (oldActive old : List ℕ) (g : ℕ) (active new : List ℕ) (h u : ℕ) → at ≡ recordPlace k → u ≡ user q
-      → Scanned p q mask opens oldActive old g (recordsHere table k)
-      → ((i : ℕ) → bit i mask ≡ true → bit i shared ≡ standsIn p q i (recordFrom table at))
-      → TakenIn (sameUser u (part table at requestBytes)) shared (roles (part table at requestBytes)) (doneWord (part table at requestBytes)) oldActive old g ever full active new h
-      → Scanned p q mask (bitOr opens shared) active new h (recordsHere table (k + 1))
-  scan-record table k at opens shared ever full oldActive old g active new h u e f s is grown =
-      rw (records-more table k, ← e) (scan-turn opens shared ever full oldActive old g active new h (recordsHere table k) (recordFrom table at) s is (rw f at grown))
-
-  -- at one that counts for no rule
-  pub scan-past :
-      (table : List ℕ) (k at opens : ℕ) (active groups : List ℕ) (g : ℕ) → at ≡ recordPlace k
-      → Scanned p q mask opens active groups g (recordsHere table k)
-      → ((i : ℕ) → bit i mask ≡ true → false ≡ standsIn p q i (recordFrom table at))
-      → Scanned p q mask opens active groups g (recordsHere table (k + 1))
-  unfolding countsFor
-  scan-past table k at opens active groups g e s absent =
-      rw (records-more table k, ← e)
-      record {
-        isOpen = λ i m. s .isOpen i m ∙ sym (any-snoc (standsIn p q i) (recordsHere table k) x ∙ rw (← absent i m) (or-false (anyOf (standsIn p q i) (recordsHere table k))));
-        allRoles =
-            λ i m j l.
-            s .allRoles i m j l
-            ∙ sym (any-snoc (countsFor p q i (λ r. bit j (roles r))) (recordsHere table k) x ∙ rw (← absent i m) (or-false (anyOf (countsFor p q i (λ r. bit j (roles r))) (recordsHere table k))));
-        allTimes =
-            λ i m d.
-            s .allTimes i m d
-            ∙ ap (min 15) (sym (count-snoc (countsFor p q i (λ r. eqb (doneWord r) d)) (recordsHere table k) x ∙ rw (← absent i m) (add-zero (length (keep (countsFor p q i (λ r. eqb (doneWord r) d)) (recordsHere table k))))));
-      }
-    where
-      x : Record
-      x = recordFrom table at
-
-  pub scan-all :
-      (table : List ℕ) (k n opens : ℕ) (active groups : List ℕ) (g : ℕ) → k ≡ n → Scanned p q mask opens active groups g (recordsHere table k)
-      → Scanned p q mask opens active groups g (recordsHere table n)
-  scan-all table k n opens active groups g e s = rw (← e) s
+-- the records found lie in the table
+pub found-inside :
+    (e : Each) (rules : ℕ) (q : Request) (s : List ℕ) (n : ℕ) → HasRoom s n
+    → (j : ℕ) → j < length (foundIn e rules q s n) → getD (foundIn e rules q s n) j 0 + recordBytes ≤ length s
+unfolding foundIn
+found-inside e rules q s n room j h =
+    every-getD 0 j (every-keep Inside (λ at. mayCount e rules q (recordFrom s at)) (every-tab recordPlace 0 n (λ i l m. place-inside s n room i (omega arith)))) h
+  where
+    Inside : ℕ → Type 0
+    Inside at = at + recordBytes ≤ length s
