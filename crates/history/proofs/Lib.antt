@@ -1,2 +1,1 @@
-pub mod TakingIn
-pub mod Standing
+pub mod Turns

@@ -1,0 +1,148 @@
+-- `history::finding::find` meets its contract.
+-- Assumes nothing.
+use Prim.Native.Nat.{_+_, _-_, _<_, _≤_}
+use native.Mathlib.Omega.{arith}
+use mathlib.Core.Path.{_≡_, sym, _∙_}
+use mathlib.Core.Logic.{⊎-elim}
+use lib.ListN.{length}
+use Rattle.words.specs.Bytes.{part}
+use Rattle.history.proofs.Turns.{room-few, place-inside, place-few, Passed, pass-start, pass-apart, pass-other, pass-found, pass-end, of-user}
+use borrow.Author.Needs.{needs}
+use Rattle.history.proofs.finding.find.Statement.{statement}
+use Rattle.history.proofs.finding.find.Tie as tie
+
+abbrev Inv-loop : tie.InvT-loop
+Inv-loop each fitting q table n found₀ who open₀ count₀ k₀ found «open» count k =
+    (k ≤ n) × Passed each (fitting .0) q table (length found₀) k («open» .0) count found
+
+abbrev μ-loop : tie.MeasureT-loop
+μ-loop each fitting q table n found₀ who open₀ count₀ k₀ found «open» count k = n - k
+
+user-requires : tie.Need-user-requires Inv-loop μ-loop
+user-requires c κs = search needs
+
+loop-holds : tie.Need-loop-holds Inv-loop μ-loop
+loop-holds c = let a = c .before .before .before .before .args in (omega arith, pass-start (a .each) (a .fitting .0) (a .q .now) (a .table .now) (a .found .now))
+
+record-place-requires : tie.Need-record-place-requires Inv-loop μ-loop
+record-place-requires c κs =
+    let s = c .before .before .before .before .before .before in
+    omega (arith, room-few (s .args .table .now) (s .args .n) (s .pre .1), c .before .loop .inv .0)
+
+-- the record lies in the table, at a byte that two bytes hold
+module _ (c : tie.After-record-place Inv-loop μ-loop) where
+  inside : c .record-place .result + 32 ≤ length (c .before .before .before .before .before .before .before .args .table .now)
+  inside =
+      let s = c .before .before .before .before .before .before .before in
+      omega (arith, place-inside (s .args .table .now) (s .args .n) (s .pre .1) (c .before .before .loop .k) (omega arith), c .record-place .ensures)
+
+  low : c .record-place .result < 65536
+  low =
+      let s = c .before .before .before .before .before .before .before in
+      omega (arith, place-few (s .args .table .now) (s .args .n) (s .pre .1) (c .before .before .loop .k) (omega arith), c .record-place .ensures)
+
+shared-at-requires : tie.Need-shared-at-requires Inv-loop μ-loop
+shared-at-requires c κs = (c .before .before .before .before .before .before .before .pre .0 .0, inside c)
+
+is-empty-requires : tie.Need-is-empty-requires Inv-loop μ-loop
+is-empty-requires c κs = search needs
+
+add-k : tie.Need-add-k Inv-loop μ-loop
+add-k c = search needs
+
+loop-less : tie.Need-loop-less Inv-loop μ-loop
+loop-less c = search needs
+
+loop-again : tie.Need-loop-again Inv-loop μ-loop
+loop-again c =
+    let a = c .before .before .before .before .before .before .before .before .before .before .args in (
+      omega arith,
+      pass-apart (a .each) (a .fitting .0) (a .q .now) (a .table .now) (c .before .before .before .record-place .ensures) (c .before .before .shared-at .ensures)
+          (c .before .before .before .before .before .loop .inv .1) (sym (c .before .is-empty .ensures) ∙ c .if1 .taken),
+    )
+
+or-requires : tie.Need-or-requires Inv-loop μ-loop
+or-requires c κs = search needs
+
+same-user-requires : tie.Need-same-user-requires Inv-loop μ-loop
+same-user-requires c κs = omega (arith, inside (c .before .before .before .before))
+
+cast-found : tie.Need-cast-found Inv-loop μ-loop
+cast-found c = omega (arith, low (c .before .before .before .before .before .before))
+
+-- there is a place for it
+place : (c : tie.Then2 Inv-loop μ-loop) → let l = c .before .before .before .before .before .before .before .before .loop in l .count < length (l .found)
+place c =
+    let l = c .before .before .before .before .before .before .before .before .loop in
+    let s = c .before .before .before .before .before .before .before .before .before .before .before .before .before in
+    omega (arith, l .inv .1 .few, l .inv .1 .sized, s .pre .0 .1)
+
+mul-found : tie.Need-mul-found Inv-loop μ-loop
+mul-found c = search needs
+
+slice-write-found : tie.Need-slice-write-found Inv-loop μ-loop
+slice-write-found c = place c
+
+add-count : tie.Need-add-count Inv-loop μ-loop
+add-count c = omega (arith, c .before .before .before .before .before .before .before .before .loop .inv .1 .few)
+
+add-k-2 : tie.Need-add-k-2 Inv-loop μ-loop
+add-k-2 c = search needs
+
+loop-less-2 : tie.Need-loop-less-2 Inv-loop μ-loop
+loop-less-2 c = search needs
+
+loop-again-2 : tie.Need-loop-again-2 Inv-loop μ-loop
+loop-again-2 c =
+    let s = c .before .before .before .before .before .before .before .before .before .before .before .before .before in
+    let a = s .args in
+    let l = c .before .before .before .before .before .before .before .before .loop in
+    let here = c .before .before .before .before .before .before .record-place .ensures in
+    let shared = c .before .before .before .before .before .shared-at .ensures in
+    let some = sym (c .before .before .before .before .is-empty .ensures) ∙ c .before .before .before .if1 .left in
+    let x = part (a .table .now) (c .before .before .before .before .before .before .record-place .result) 28 in
+    let who = c .before .before .before .before .before .before .before .before .before .user .ensures in (
+      omega arith,
+      ⊎-elim
+          (λ w. rw (w .1, w .2)
+          (pass-found (a .each) (a .fitting .0) (a .q .now) (a .table .now) here shared (l .inv .1) some (c .before .before .or .ensures)
+          (of-user (a .q .now) x (s .pre .0 .0) who (c .before .same-user .ensures) (w .0 .taken)) (place record { before = c .before; if2 = w .0 })))
+          (λ w. rw (w .1, w .2)
+          (pass-other (a .each) (a .fitting .0) (a .q .now) (a .table .now) here shared (l .inv .1) some (c .before .before .or .ensures)
+          (of-user (a .q .now) x (s .pre .0 .0) who (c .before .same-user .ensures) (w .0 .left))))
+          (c .if2 .came),
+    )
+
+same-length : tie.Need-same-length Inv-loop μ-loop
+same-length c = c .before .loop .inv .1 .sized
+
+returns : tie.Need-returns Inv-loop μ-loop
+returns c =
+    let a = c .before .before .before .before .before .before .args in
+    pass-end (a .each) (a .fitting .0) (a .q .now) (a .table .now) (omega arith) (c .before .loop .inv .1)
+
+pub find-spec : {M : Type 1} → statement M
+find-spec =
+    tie.close
+    (tie.spec
+    Inv-loop
+    μ-loop
+    user-requires
+    loop-holds
+    record-place-requires
+    shared-at-requires
+    is-empty-requires
+    add-k
+    loop-less
+    loop-again
+    or-requires
+    same-user-requires
+    cast-found
+    mul-found
+    slice-write-found
+    add-count
+    add-k-2
+    loop-less-2
+    loop-again-2
+    same-length
+    returns)
