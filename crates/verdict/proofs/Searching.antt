@@ -1,13 +1,12 @@
 -- Step 3: the search through the rules that judge and their exclusions.
 -- Assumes nothing.
 use Prim.Native.Nat.{ℕ, _+_, _-_, _*_, _≤_, _<_}
-use native.Mathlib.Nat.{sub-zero}
 use native.Mathlib.Omega.{arith}
 use mathlib.Core.Path.{_≡_, sym, ap, _∙_, subst, subst⁻¹}
 use mathlib.Core.Bool.{Bool, true, false, cond, not}
 use mathlib.Core.List.{List, [], _∷_, _++_, map}
 use mathlib.Core.Option.{Option, none, some}
-use lib.ListN.{length, getD, take, length-map, length-take}
+use lib.ListN.{length, getD, length-map}
 use lib.Dec.{eqb}
 use Rattle.words.specs.Lists.{keep}
 use Rattle.words.specs.First.{unless, first}
@@ -58,14 +57,6 @@ module _ (policy : List ℕ) (rules : ℕ) (each : Each) (q : Request) (table fo
         (b : List ℕ) (n : ℕ) → bit i rules ≡ true → b ≡ block policy i → n ≡ byteAt b exclusionsAt
         → left (ruleFails policy rules each q table found) (failsAt b i counts) i mostRules 0 n ≡ t
     rule-judges b n e f k = row-enter (ruleFails policy rules each q table found) (failsAt b i counts) i mostRules n h l (heard b n e f k)
-
--- the first n words of a past, as the code lends them
-module _ (n : ℕ) {l w : List ℕ} (e : take n l ≡ w) where
-  pub front-is : take (n - 0) l ≡ w
-  front-is = rw (sub-zero n) e
-
-  pub front-most : length (take (n - 0) l) ≤ n
-  front-most = omega (arith, length-take (n - 0) l)
 
 -- the operation of a request of bytes has two bytes
 pub past-small :

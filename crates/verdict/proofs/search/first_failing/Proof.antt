@@ -1,13 +1,14 @@
 -- `verdict::search::first_failing` meets its contract: what is left of the search says what the whole says.
 -- Assumes nothing.
 use Prim.Native.Nat.{ℕ, _+_, _-_, _*_, _≤_, _<_}
+use native.Mathlib.Nat.{sub-zero}
 use native.Mathlib.Omega.{arith}
 use mathlib.Core.Path.{_≡_, sym, _∙_}
 use mathlib.Core.List.{List}
 use mathlib.Core.Bool.{true}
 use mathlib.Core.Option.{Option}
 use borrow.Author.Tests.{not-true, not-false}
-use lib.ListN.{length, take, drop}
+use lib.ListN.{length, take, drop, length-take}
 use Rattle.words.specs.First.{first}
 use Rattle.words.specs.Bytes.{bit}
 use Rattle.word_laws.proofs.First.{first-start, first-done}
@@ -24,7 +25,7 @@ use Rattle.verdict.specs.Code.{ruleFails}
 use Rattle.verdict.specs.declared.search.Judging.{Judging}
 use Rattle.verdict.proofs.AcceptedEntries.{exclusion-ready}
 use Rattle.verdict.proofs.Nested.{left, row-hit, row-more, row-done}
-use Rattle.verdict.proofs.Searching.{failsAt, counts, rule-silent, rule-judges, front-is, front-most, past-small, exclusion-fails, exclusion-passes}
+use Rattle.verdict.proofs.Searching.{failsAt, counts, rule-silent, rule-judges, past-small, exclusion-fails, exclusion-passes}
 use borrow.Author.Needs.{needs}
 use Rattle.verdict.proofs.search.first_failing.Statement.{statement}
 use Rattle.verdict.proofs.search.first_failing.Tie as tie
@@ -152,7 +153,7 @@ reaches-requires c κs =
     let wide = c .before .before .before .before .wide in
     let past-of = c .before .before .before .before .before .before .before .before .past-of in (
       exclusion-ready (s .args .policy .now) (s .pre .0 .accepted) _ i (c .before .before .before .loop .e) (wide .result) (below d) (part-to (s .args .policy .now) (512 * i) 512) (wide .ensures .0) (c .before .before .loop-test .taken),
-      (s .pre .1 .0 .0, omega (arith, front-most (2 * past-of .result) (past-of .ensures .1), past-of .ensures .0)),
+      (s .pre .1 .0 .0, simp (length-take) (omega (arith, past-of .ensures .0))),
     )
 
 -- what the tally has said of the exclusion at hand
@@ -168,7 +169,7 @@ module _ (c : tie.After-reaches Inv-loop μ-loop Inv-rules μ-rules) where
       let i = d .before .before .before .rules .i in
       let past-of = c .before .before .before .before .before .before .before .before .before .past-of in
       c .reaches .ensures (pastBy (a .judging .each) (a .q .now) i (a .table .now) (a .found .now))
-      (front-is (2 * past-of .result) (past-of .ensures .1))
+      (rw (sub-zero (2 * past-of .result)) (past-of .ensures .1))
       (past-small (a .judging .each) (a .q .now) i (a .table .now) (a .found .now) (λ k. c .before .before .before .before .before .before .before .before .before .before .before .before .before .before .before .before .before .before .shared-slice-known3 .given k .fits))
 
 add-e : tie.Need-add-e Inv-loop μ-loop Inv-rules μ-rules

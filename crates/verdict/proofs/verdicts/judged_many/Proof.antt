@@ -1,0 +1,22 @@
+use borrow.Author.Needs.{needs}
+use Rattle.verdict.proofs.verdicts.judged_many.Statement.{statement}
+use Rattle.verdict.proofs.verdicts.judged_many.Tie as tie
+
+sub-judged : tie.Need-sub-judged
+sub-judged c = search needs
+
+part-found-start : tie.Need-part-found-start
+part-found-start c = search needs
+
+part-found-end : tie.Need-part-found-end
+part-found-end c = search needs
+
+judged-requires : tie.Need-judged-requires
+judged-requires c κs = search needs
+
+returns : tie.Need-returns
+returns c = search needs
+
+pub judged-many-spec : {M : Type 1} → statement M
+judged-many-spec =
+    tie.close (tie.spec sub-judged part-found-start part-found-end judged-requires returns)
