@@ -18,6 +18,7 @@ use Rattle.words.specs.Bytes.{part, bit}
 use Rattle.word_laws.proofs.Keep.{keep-append, map-append}
 use Rattle.word_laws.proofs.Parts.{part-whole}
 use Rattle.word_laws.proofs.BitLaws.{bit-or, same-bits}
+use Rattle.format.specs.Layout.{requestBytes, recordBytes}
 use Rattle.format.specs.Request.{Request, user, roles}
 use Rattle.format.specs.Table.{Record, marked}
 use Rattle.format.specs.Place.{recordPlace, recordFrom, recordHere, recordsHere}
@@ -34,7 +35,7 @@ module _ (s : List ℕ) (n : ℕ) (room : HasRoom s n) where
   pub room-few : n ≤ 1920
   room-few = omega (arith, room .most, room .few)
 
-  pub place-inside : (k : ℕ) → k < n → recordPlace k + 32 ≤ length s
+  pub place-inside : (k : ℕ) → k < n → recordPlace k + recordBytes ≤ length s
   place-inside k h = omega (arith, room .whole, room .most, room .few)
 
   pub place-few : (k : ℕ) → k < n → recordPlace k < 65536
@@ -108,7 +109,7 @@ module _ (e : Each) (rules : ℕ) (q : Request) where
 
     -- whether it may count
     may-count :
-        {y : ℕ} {b u : Bool} → y ≡ sharedBy e rules q (recordFrom s at) → eqb y 0 ≡ b → sameUser (user q) (part s at 28) ≡ u
+        {y : ℕ} {b u : Bool} → y ≡ sharedBy e rules q (recordFrom s at) → eqb y 0 ≡ b → sameUser (user q) (part s at requestBytes) ≡ u
         → mayCount e rules q (recordFrom s at) ≡ not b && u
     unfolding mayCount
     may-count f g h = rw (← f, g, h)
@@ -145,7 +146,7 @@ module _ (e : Each) (rules : ℕ) (q : Request) (s : List ℕ) where
 
     module _ (h : eqb y 0 ≡ false) {z : ℕ} (either : z ≡ bitOr x y) where
       -- it is another user's
-      pub pass-other : sameUser (user q) (part s at 28) ≡ false → Passed e rules q s len (k + 1) z c l
+      pub pass-other : sameUser (user q) (part s at requestBytes) ≡ false → Passed e rules q s len (k + 1) z c l
       pass-other u =
           record {
             few = omega (arith, p .few);
@@ -156,7 +157,7 @@ module _ (e : Each) (rules : ℕ) (q : Request) (s : List ℕ) where
 
       -- it is the user's
       pub pass-found :
-          sameUser (user q) (part s at 28) ≡ true → c < length l → Passed e rules q s len (k + 1) z (c + 1) (set l c at)
+          sameUser (user q) (part s at requestBytes) ≡ true → c < length l → Passed e rules q s len (k + 1) z (c + 1) (set l c at)
       pass-found u r =
           record {
             few = omega (arith, p .few);
@@ -172,7 +173,7 @@ module _ (e : Each) (rules : ℕ) (q : Request) (s : List ℕ) where
   pass-end f p = rw (← f) (p .opens, p .few, p .founds, p .sized)
 
 -- the request at byte 0 is the whole
-pub of-user : (q x : Request) → length q ≡ 28 → {u : ℕ} {b r : Bool} → u ≡ user (part q 0 28) → b ≡ sameUser u x → b ≡ r → sameUser (user q) x ≡ r
+pub of-user : (q x : Request) → length q ≡ requestBytes → {u : ℕ} {b r : Bool} → u ≡ user (part q 0 requestBytes) → b ≡ sameUser u x → b ≡ r → sameUser (user q) x ≡ r
 of-user q x h f g e = ap (λ (u : ℕ). sameUser u x) (sym (f ∙ ap user (part-whole q 28 h))) ∙ sym g ∙ e
 
 -- ---- a request more
@@ -214,11 +215,11 @@ module _ (e : Each) (q : Request) (i : ℕ) (s found : List ℕ) where
 
   -- the record found as number j
   module _ {len j c at : ℕ} (here : at ≡ getD found j 0) (h : j < length found) {l : List ℕ} (p : Counted e q i s found len j c l) where
-    by-more : pastBy e q i s (take (j + 1) found) ≡ pastBy e q i s (take j found) ++ map (λ k. part s k 28) (cond (standsBy e q i (recordFrom s at)) (at ∷ []) [])
+    by-more : pastBy e q i s (take (j + 1) found) ≡ pastBy e q i s (take j found) ++ map (λ k. part s k requestBytes) (cond (standsBy e q i (recordFrom s at)) (at ∷ []) [])
     unfolding pastBy
     by-more =
         rw (add-one j, take-suc found j 0 h, ← here, keep-more (λ k. standsBy e q i (recordFrom s k)) (take j found) at)
-        (map-append (λ k. part s k 28) (keep (λ k. standsBy e q i (recordFrom s k)) (take j found)) (cond (standsBy e q i (recordFrom s at)) (at ∷ []) []))
+        (map-append (λ k. part s k requestBytes) (keep (λ k. standsBy e q i (recordFrom s k)) (take j found)) (cond (standsBy e q i (recordFrom s at)) (at ∷ []) []))
 
     pub count-apart : {b : Bool} → b ≡ standsBy e q i (recordFrom s at) → b ≡ false → Counted e q i s found len (j + 1) c l
     count-apart o g =
@@ -229,7 +230,7 @@ module _ (e : Each) (q : Request) (i : ℕ) (s found : List ℕ) where
         }
 
     pub count-more :
-        {o : Bool} → o ≡ standsBy e q i (recordFrom s at) → o ≡ true → {a b : ℕ} → a ≡ roles (part s at 28) → b ≡ packedOf (doneBy (part s at 28)) → 2 * c + 1 < length l
+        {o : Bool} → o ≡ standsBy e q i (recordFrom s at) → o ≡ true → {a b : ℕ} → a ≡ roles (part s at requestBytes) → b ≡ packedOf (doneBy (part s at requestBytes)) → 2 * c + 1 < length l
         → Counted e q i s found len (j + 1) (c + 1) (sets l (2 * c) (a ∷ b ∷ []))
     count-more stands g {a} {b} f d r =
         record {
@@ -237,7 +238,7 @@ module _ (e : Each) (q : Request) (i : ℕ) (s found : List ℕ) where
           sized = length-sets l (2 * c) (a ∷ b ∷ []) ∙ p .sized;
           past =
               put-two l c a b r
-              ∙ rw (p .past, f, d) (sym (ap pastWords (by-more ∙ rw (← stands, g)) ∙ past-snoc (pastBy e q i s (take j found)) (part s at 28)));
+              ∙ rw (p .past, f, d) (sym (ap pastWords (by-more ∙ rw (← stands, g)) ∙ past-snoc (pastBy e q i s (take j found)) (part s at requestBytes)));
         }
 
   pub count-end : {len j c : ℕ} {l : List ℕ} → j ≡ length found → Counted e q i s found len j c l
