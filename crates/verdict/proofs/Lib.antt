@@ -1,4 +1,5 @@
 pub mod Left
+pub mod Room
 pub mod AcceptedEntries
 pub mod Permissions
 pub mod Nested

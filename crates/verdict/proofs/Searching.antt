@@ -4,25 +4,22 @@ use Prim.Native.Nat.{ℕ, _+_, _-_, _*_, _≤_, _<_}
 use native.Mathlib.Omega.{arith}
 use mathlib.Core.Path.{_≡_, sym, ap, _∙_, subst, subst⁻¹}
 use mathlib.Core.Bool.{Bool, true, false, cond, not}
-use mathlib.Core.List.{List, [], _∷_, _++_, map}
+use mathlib.Core.List.{List, [], _∷_, _++_}
 use mathlib.Core.Option.{Option, none, some}
-use lib.ListN.{length, getD, length-map}
+use lib.ListN.{length}
 use lib.Dec.{eqb}
-use Rattle.words.specs.Lists.{keep}
 use Rattle.words.specs.First.{unless, first}
-use Rattle.words.specs.Bytes.{part, byteAt, u16At, bit}
-use Rattle.word_laws.proofs.Parts.{byteAt-part, u16At-part}
-use Rattle.word_laws.proofs.Lists.{getD-map}
+use Rattle.words.specs.Bytes.{byteAt, bit}
+use Rattle.word_laws.proofs.Parts.{byteAt-part}
 use Rattle.word_laws.proofs.First.{first-more}
 use Rattle.format.specs.Answer.{Refusal, refusal}
-use Rattle.format.specs.Layout.{blockBytes, requestBytes, mostRules, mostExclusions, exclusionsAt}
+use Rattle.format.specs.Layout.{blockBytes, mostRules, mostExclusions, exclusionsAt}
 use Rattle.format.specs.Block.{block}
-use Rattle.format.specs.Request.{Request, operation}
+use Rattle.format.specs.Request.{Request}
 use Rattle.format.specs.Rule.{exclusionAt}
-use Rattle.format.specs.Place.{recordFrom}
 use Rattle.judge.specs.Tally.{reached, exclusionNumber}
 use Rattle.matching.specs.declared.masks.Each.{Each}
-use Rattle.history.specs.Code.{standsBy, pastBy}
+use Rattle.history.specs.Code.{pastBy}
 use Rattle.verdict.specs.Code.{failsIn, ruleFails, failingOf, FoundAt}
 use Rattle.verdict.specs.declared.search.Failing.{Failing}
 use Rattle.verdict.specs.declared.search.Failing.the-variants.{At}
@@ -57,18 +54,6 @@ module _ (policy : List ℕ) (rules : ℕ) (each : Each) (q : Request) (table fo
         (b : List ℕ) (n : ℕ) → bit i rules ≡ true → b ≡ block policy i → n ≡ byteAt b exclusionsAt
         → left (ruleFails policy rules each q table found) (failsAt b i counts) i mostRules 0 n ≡ t
     rule-judges b n e f k = row-enter (ruleFails policy rules each q table found) (failsAt b i counts) i mostRules n h l (heard b n e f k)
-
--- the operation of a request of bytes has two bytes
-pub past-small :
-    (each : Each) (q : Request) (i : ℕ) (table found : List ℕ) → ((k : ℕ) → getD table k 0 < 256)
-    → (j : ℕ) → j < length (pastBy each q i table found) → operation (getD (pastBy each q i table found) j []) < 65536
-unfolding pastBy
-past-small each q i table found bytes j h =
-    rw (getD-map (λ at. part table at requestBytes) kept j 0 [] (omega (arith, length-map kept (λ at. part table at requestBytes))), u16At-part table (getD kept j 0) requestBytes 8 (omega arith))
-    (omega (arith, bytes (getD kept j 0 + 8), bytes (getD kept j 0 + 8 + 1)))
-  where
-    kept : List ℕ
-    kept = keep (λ at. standsBy each q i (recordFrom table at)) found
 
 -- ---- one exclusion
 

@@ -74,7 +74,7 @@ loop-again c =
       omega arith,
       l .inv .1,
       list-more (grants (a .q .now)) (permissionsAt (a .policy .now)) (l .k) _ (l .inv .2) (omega arith)
-      (block-entries (a .policy .now) (a .q .now) (l .k) _ (block-permits .result) false (part-to (a .policy .now) (512 * l .k) 512) (block-permits .ensures) (c .if1 .left)),
+          (block-entries (a .policy .now) (a .q .now) (l .k) _ (block-permits .result) false (part-to (a .policy .now) (512 * l .k) 512) (block-permits .ensures) (c .if1 .left)),
     )
 
 returns-2 : tie.Need-returns-2 Inv-loop μ-loop

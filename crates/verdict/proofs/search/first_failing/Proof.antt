@@ -21,11 +21,12 @@ use Rattle.format.specs.Policy.{ruleCount}
 use Rattle.format_laws.proofs.AcceptedPolicy.{rule-inside}
 use Rattle.judge.specs.Tally.{reached}
 use Rattle.history.specs.Code.{pastBy}
+use Rattle.history.proofs.Standing.{past-small}
 use Rattle.verdict.specs.Code.{ruleFails}
 use Rattle.verdict.specs.declared.search.Judging.{Judging}
 use Rattle.verdict.proofs.AcceptedEntries.{exclusion-ready}
 use Rattle.verdict.proofs.Nested.{left, row-hit, row-more, row-done}
-use Rattle.verdict.proofs.Searching.{failsAt, counts, rule-silent, rule-judges, past-small, exclusion-fails, exclusion-passes}
+use Rattle.verdict.proofs.Searching.{failsAt, counts, rule-silent, rule-judges, exclusion-fails, exclusion-passes}
 use borrow.Author.Needs.{needs}
 use Rattle.verdict.proofs.search.first_failing.Statement.{statement}
 use Rattle.verdict.proofs.search.first_failing.Tie as tie
@@ -37,7 +38,10 @@ fails policy judging q table found = ruleFails policy (judging .rules .0) (judgi
 abbrev whole : List ℕ → Judging → Request → List ℕ → List ℕ → Option Refusal
 whole policy judging q table found = first (fails policy judging q table found) 0 mostRules
 
--- what a rule counts
+-- the block of the rule at hand, as the code lends it, and what the rule counts
+abbrev here : List ℕ → ℕ → List ℕ
+here policy i = take (512 * i + 512 - 512 * i) (drop (512 * i) policy)
+
 abbrev those : List ℕ → Judging → Request → List ℕ → List ℕ → ℕ → List Request
 those policy judging q table found i = counts policy (judging .rules .0) (judging .each) q table found i
 
@@ -130,7 +134,7 @@ loop-holds c =
     let rules = d .before .before .before .rules in (
       omega arith,
       rule-judges (a .policy .now) (a .judging .rules .0) (a .judging .each) (a .q .now) (a .table .now) (a .found .now) (rules .i) (rules .inv .2) (omega arith)
-      _ (c .wide .result) (judges d) (part-to (a .policy .now) (512 * rules .i) 512) (c .wide .ensures .0),
+          _ (c .wide .result) (judges d) (part-to (a .policy .now) (512 * rules .i) 512) (c .wide .ensures .0),
     )
 
 cast-reaches : tie.Need-cast-reaches Inv-loop μ-loop Inv-rules μ-rules
@@ -162,7 +166,7 @@ module _ (c : tie.After-reaches Inv-loop μ-loop Inv-rules μ-rules) where
       let d = c .before .before .before .before .before .before .before .before .before .before .before .before in
       let a = d .before .before .before .before .before .before .before .before .before .args in
       let i = d .before .before .before .rules .i in
-      c .reaches .result ≡ reached (exclusionAt (take (512 * i + 512 - 512 * i) (drop (512 * i) (a .policy .now))) (c .before .before .before .before .loop .e)) (those (a .policy .now) (a .judging) (a .q .now) (a .table .now) (a .found .now) i)
+      c .reaches .result ≡ reached (exclusionAt (here (a .policy .now) i) (c .before .before .before .before .loop .e)) (those (a .policy .now) (a .judging) (a .q .now) (a .table .now) (a .found .now) i)
   reached-is =
       let d = c .before .before .before .before .before .before .before .before .before .before .before .before in
       let a = d .before .before .before .before .before .before .before .before .before .args in
@@ -186,8 +190,8 @@ loop-again c =
     let l = c .before .before .before .before .before .loop in
     let taken = c .before .before .before .before .loop-test .taken in (
       omega arith,
-      row-more (fails (a .policy .now) (a .judging) (a .q .now) (a .table .now) (a .found .now)) _ i mostRules (l .e) (c .before .before .before .before .before .before .wide .result) (l .inv .1) taken
-      (exclusion-passes (a .policy .now) _ i (l .e) _ (c .before .reaches .result) (reached-is (c .before)) (c .if3 .left)),
+      row-more (fails (a .policy .now) (a .judging) (a .q .now) (a .table .now) (a .found .now)) (failsAt (here (a .policy .now) i) i (those (a .policy .now) (a .judging) (a .q .now) (a .table .now) (a .found .now) i)) i mostRules (l .e) (c .before .before .before .before .before .before .wide .result) (l .inv .1) taken
+          (exclusion-passes (a .policy .now) (here (a .policy .now) i) i (l .e) (those (a .policy .now) (a .judging) (a .q .now) (a .table .now) (a .found .now) i) (c .before .reaches .result) (reached-is (c .before)) (c .if3 .left)),
     )
 
 add-i-2 : tie.Need-add-i-2 Inv-loop μ-loop Inv-rules μ-rules
@@ -201,10 +205,11 @@ rules-again-2 c =
     let d = c .before .before .before .before .before .before .before .before .before in
     let a = d .before .before .before .before .before .before .before .before .before .args in
     let rules = d .before .before .before .rules in
+    let i = rules .i in
     let l = c .before .loop in (
       omega arith,
       omega (arith, c .before .before .before .before .before .before .past-of .ensures .2, rules .inv .1),
-      row-done (fails (a .policy .now) (a .judging) (a .q .now) (a .table .now) (a .found .now)) _ (rules .i) mostRules (l .e) (c .before .before .wide .result) (l .inv .1) (c .loop-test .left),
+      row-done (fails (a .policy .now) (a .judging) (a .q .now) (a .table .now) (a .found .now)) (failsAt (here (a .policy .now) i) i (those (a .policy .now) (a .judging) (a .q .now) (a .table .now) (a .found .now) i)) i mostRules (l .e) (c .before .before .wide .result) (l .inv .1) (c .loop-test .left),
     )
 
 same-length : tie.Need-same-length Inv-loop μ-loop Inv-rules μ-rules
@@ -228,8 +233,8 @@ returns-2 c =
     let wide = c .before .before .before .before .before .before .wide in
     let taken = c .before .before .before .before .loop-test .taken in
     let b-is = part-to (a .policy .now) (512 * i) 512 in (
-      row-hit (fails (a .policy .now) (a .judging) (a .q .now) (a .table .now) (a .found .now)) _ i mostRules (l .e) (wide .result) (l .inv .1) taken
-      (exclusion-fails (a .policy .now) _ i (l .e) _ (c .before .reaches .result) (reached-is (c .before)) (c .if3 .taken) b-is),
+      row-hit (fails (a .policy .now) (a .judging) (a .q .now) (a .table .now) (a .found .now)) (failsAt (here (a .policy .now) i) i (those (a .policy .now) (a .judging) (a .q .now) (a .table .now) (a .found .now) i)) i mostRules (l .e) (wide .result) (l .inv .1) taken
+          (exclusion-fails (a .policy .now) (here (a .policy .now) i) i (l .e) (those (a .policy .now) (a .judging) (a .q .now) (a .table .now) (a .found .now) i) (c .before .reaches .result) (reached-is (c .before)) (c .if3 .taken) b-is),
       (omega arith, exclusion-ready (a .policy .now) (s .pre .0 .accepted) _ i (l .e) (wide .result) (below d) b-is (wide .ensures .0) taken .1, inside d),
     )
 

@@ -1,3 +1,8 @@
+-- `verdict::verdicts::judged_many` meets its contract.
+-- Assumes nothing.
+use native.Mathlib.Omega.{arith}
+use Rattle.history.proofs.Turns.{room-few}
+use Rattle.verdict.proofs.Room.{zeros-long}
 use borrow.Author.Needs.{needs}
 use Rattle.verdict.proofs.verdicts.judged_many.Statement.{statement}
 use Rattle.verdict.proofs.verdicts.judged_many.Tie as tie
@@ -12,7 +17,12 @@ part-found-end : tie.Need-part-found-end
 part-found-end c = search needs
 
 judged-requires : tie.Need-judged-requires
-judged-requires c κs = search needs
+judged-requires c κs =
+    let s = c .before .before .before .before in
+    let p = s .pre in
+    let few = room-few (s .args .table .now) (s .args .n) (p .1 .1 .1) in
+    let long = zeros-long 1920 in
+    (p .0, (p .1 .0, ((p .1 .1 .0, omega arith), p .1 .1 .1)))
 
 returns : tie.Need-returns
 returns c = search needs
