@@ -1,6 +1,6 @@
--- What acceptance says of a policy's blocks: the entries of a permission block, the limits of a rule, and where they stand.
+-- What acceptance says of a policy's blocks: the entries of a permission block, and the exclusions of a rule.
 -- Assumes nothing.
-use Prim.Native.Nat.{ℕ, _≤_, _<_}
+use Prim.Native.Nat.{ℕ, _*_, _≤_, _<_}
 use native.Mathlib.Omega.{arith}
 use mathlib.Core.Path.{_≡_, sym, ap, _∙_}
 use mathlib.Core.Bool.{true, cond, _&&_}
@@ -8,16 +8,17 @@ use mathlib.Core.List.{List}
 use mathlib.Core.Option.{none}
 use borrow.Author.Tests.{leb-true}
 use lib.Dec.{eqb, leb}
+use lib.ListN.{length}
 use Rattle.words.specs.Bytes.{byteAt}
 use Rattle.word_laws.proofs.First.{none-first, none-second, passes-unless, none-at}
 use Rattle.word_laws.proofs.Tests.{both-first, both-second}
-use Rattle.format.specs.Layout.{ruleKind, permissionKind, highestRole}
+use Rattle.word_laws.proofs.Parts.{part-length}
+use Rattle.format.specs.Layout.{blockBytes, ruleKind, permissionKind, highestRole, mostEntries, mostExclusions, exclusionsAt}
 use Rattle.format.specs.Block.{blocks, block, kind}
 use Rattle.format.specs.Rule.{Rule, exclusionAt, ruleAt, goodRule, goodExclusion, ruleFault}
 use Rattle.format.specs.Policy.{Permission, policyFault, policyBlockFault, permissionFault, permissionAt, goodPermission, goodPermissionBytes, entries, ruleCount}
 use Rattle.format_laws.proofs.AcceptedPolicy.{rule-inside, rule-good, exclusion-good}
-use Rattle.verdict.specs.Code.{EntriesFit, RuleBlock}
-use Rattle.verdict.proofs.Cut.{length-block}
+use Rattle.verdict.specs.Code.{EntriesFit}
 
 -- an entry's role is 1 to 32
 module _ (x : Permission) (good : goodPermission x ≡ true) where
@@ -31,17 +32,11 @@ module _ (x : Permission) (good : goodPermission x ≡ true) where
   role-high : x .role ≤ highestRole
   role-high = leb-true (x .role) highestRole (both-second (leb 1 (x .role)) (leb (x .role) highestRole) role-range)
 
--- a rule's depth and the number of its exclusions
-module _ (r : Rule) (good : goodRule r ≡ true) where
-  counts-pass : leb (r .depth) 4 && leb 1 (r .exclusions) && leb (r .exclusions) 8 ≡ true
-  unfolding goodRule
-  counts-pass = both-first _ _ (both-first _ _ good)
-
-  rule-depth : r .depth ≤ 4
-  rule-depth = leb-true (r .depth) 4 (both-first _ (leb 1 (r .exclusions)) (both-first _ (leb (r .exclusions) 8) counts-pass))
-
-  rule-exclusions : r .exclusions ≤ 8
-  rule-exclusions = leb-true (r .exclusions) 8 (both-second (leb (r .depth) 4 && leb 1 (r .exclusions)) _ counts-pass)
+-- the number of a rule's exclusions
+rule-exclusions : (r : Rule) → goodRule r ≡ true → r .exclusions ≤ mostExclusions
+unfolding goodRule
+rule-exclusions r good =
+    leb-true (r .exclusions) mostExclusions (both-second (leb (r .depth) 4 && leb 1 (r .exclusions)) _ (both-first _ _ (both-first _ _ good)))
 
 module _ (s : List ℕ) (accepted : policyFault s ≡ none) where
   block-passes : (k : ℕ) → k < blocks s → policyBlockFault s k ≡ none
@@ -62,21 +57,20 @@ module _ (s : List ℕ) (accepted : policyFault s ≡ none) where
   unfolding permissionFault goodPermissionBytes
   entries-fit k h e =
       record {
-        most = leb-true (entries (block s k)) 61 (both-first _ _ (both-first _ _ (passes-unless _ _ (none-first _ _ (entries-pass k h e)))));
+        most = leb-true (entries (block s k)) mostEntries (both-first _ _ (both-first _ _ (passes-unless _ _ (none-first _ _ (entries-pass k h e)))));
         low = λ i l. role-low (permissionAt (block s k) i) (entry-passes k h e i l);
         high = λ i l. role-high (permissionAt (block s k) i) (entry-passes k h e i l);
       }
 
-  -- ---- a rule's block
-
-  pub rule-fits : (i : ℕ) → i < ruleCount s → RuleBlock (block s i)
+  -- what the tally asks of exclusion e of rule i, whose block is b
+  pub exclusion-ready :
+      (b : List ℕ) (i e n : ℕ) → i < ruleCount s → b ≡ block s i → n ≡ byteAt b exclusionsAt → e < n
+      → (length b ≡ blockBytes) × (e < mostExclusions) × (goodExclusion (exclusionAt b e) ≡ true)
   unfolding ruleAt
-  rule-fits i h = record { whole = length-block s i (rule-inside s accepted i h); depth = rule-depth (ruleAt (block s i)) (rule-good s accepted i h) }
-
-  pub exclusions-most : (i : ℕ) → i < ruleCount s → byteAt (block s i) 9 ≤ 8
-  unfolding ruleAt
-  exclusions-most i h = rule-exclusions (ruleAt (block s i)) (rule-good s accepted i h)
-
-  pub exclusion-fits : (i : ℕ) → i < ruleCount s → (e : ℕ) → e < byteAt (block s i) 9 → goodExclusion (exclusionAt (block s i) e) ≡ true
-  unfolding ruleAt
-  exclusion-fits i h e l = exclusion-good s accepted i h e l
+  exclusion-ready b i e n h f g l =
+      let g′ = rw f at g in
+      rw f (
+        part-length s (512 * i) 512 (rule-inside s accepted i h),
+        omega (arith, rule-exclusions (ruleAt (block s i)) (rule-good s accepted i h)),
+        exclusion-good s accepted i h e (omega arith),
+      )

@@ -1,7 +1,7 @@
-pub mod Cut
-pub mod AnyOf
+pub mod Left
+pub mod Room
 pub mod AcceptedEntries
 pub mod Permissions
 pub mod Nested
 pub mod Searching
-pub mod VerdictRows
+pub mod Judged

@@ -1,28 +1,32 @@
--- `verdict::permits::permitted` meets its contract: no block passed permits the request.
+-- `verdict::permits::permitted` meets its contract: the blocks that are left say what all say.
 -- Assumes nothing.
-use Rattle.verdict.proofs.Cut.{cut, length-block}
-use Rattle.verdict.proofs.AcceptedEntries.{entries-fit}
-use Rattle.format_laws.proofs.AcceptedPolicy.{policy-blocked}
-use Rattle.verdict.proofs.Permissions.{blockGrants, permits-hit, permits-more, permits-done}
-use Rattle.format.specs.Block.{blocks}
-use Rattle.words.specs.Lists.{anyBelow}
-use mathlib.Core.Bool.{false}
-use native.Mathlib.Omega.{arith}
-use mathlib.Core.Path.{_≡_, refl}
 use Prim.Native.Nat.{_-_, _≤_, _*_}
+use native.Mathlib.Omega.{arith}
+use mathlib.Core.Path.{_≡_}
+use mathlib.Core.Bool.{true, false}
+use mathlib.Core.List.{flatten}
+use Rattle.words.specs.Lists.{tab, anyOf}
+use Rattle.word_laws.proofs.Parts.{part-to, part-length}
+use Rattle.format.specs.Block.{blocks}
+use Rattle.format.specs.Policy.{policyOf, permissionsAt}
+use Rattle.format_laws.proofs.AcceptedPolicy.{policy-blocked}
+use Rattle.judge.specs.Verdict.{grants, permitted as permittedBy}
+use Rattle.verdict.proofs.AcceptedEntries.{entries-fit}
+use Rattle.verdict.proofs.Left.{list-hit, list-more, list-done}
+use Rattle.verdict.proofs.Permissions.{blocks-start, block-entries}
 use borrow.Author.Needs.{needs}
 use Rattle.verdict.proofs.permits.permitted.Statement.{statement}
 use Rattle.verdict.proofs.permits.permitted.Tie as tie
 
 abbrev Inv-loop : tie.InvT-loop
-Inv-loop policy q n k₀ k = (k ≤ n) × ((n ≡ blocks policy) × (anyBelow k (blockGrants policy q) ≡ false))
+Inv-loop policy q n k₀ k =
+    (k ≤ n) × (n ≡ blocks policy) × (anyOf (grants q) (flatten (tab (permissionsAt policy) k (n - k))) ≡ permittedBy (policyOf policy) q)
 
 abbrev μ-loop : tie.MeasureT-loop
 μ-loop policy q n k₀ k = n - k
 
 loop-holds : tie.Need-loop-holds Inv-loop μ-loop
-unfolding anyBelow
-loop-holds c = (omega arith, (omega arith, refl))
+loop-holds c = let a = c .before .before .args in (omega arith, omega arith, blocks-start (a .policy .now) (a .q .now) _ (omega arith))
 
 mul-at : tie.Need-mul-at Inv-loop μ-loop
 mul-at c = search needs
@@ -45,16 +49,16 @@ block-permits-requires c κs =
     let p = c .before .before .before .before .before .pre in
     let l = c .before .before .loop in
     let blocked = policy-blocked (a .policy .now) (p .0) in
-    rw (cut (a .policy .now) (512 * l .k) 512)
-    ((length-block (a .policy .now) (l .k) (omega arith), p .1), entries-fit (a .policy .now) (p .0) (l .k) (omega arith))
+    rw (part-to (a .policy .now) (512 * l .k) 512)
+    ((part-length (a .policy .now) (512 * l .k) 512 (omega arith), p .1), entries-fit (a .policy .now) (p .0) (l .k) (omega arith))
 
 returns : tie.Need-returns Inv-loop μ-loop
 returns c =
     let a = c .before .before .before .before .before .before .before .args in
     let l = c .before .before .before .before .loop in
     let block-permits = c .before .block-permits in
-    let if1 = c .if1 in
-    permits-hit (a .policy .now) (a .q .now) (l .k) _ (block-permits .result) (omega arith) (cut (a .policy .now) (512 * l .k) 512) (block-permits .ensures) (if1 .taken)
+    list-hit (grants (a .q .now)) (permissionsAt (a .policy .now)) (l .k) _ (l .inv .2) (omega arith)
+    (block-entries (a .policy .now) (a .q .now) (l .k) _ (block-permits .result) true (part-to (a .policy .now) (512 * l .k) 512) (block-permits .ensures) (c .if1 .taken))
 
 add-k : tie.Need-add-k Inv-loop μ-loop
 add-k c = search needs
@@ -66,15 +70,18 @@ loop-again : tie.Need-loop-again Inv-loop μ-loop
 loop-again c =
     let a = c .before .before .before .before .before .before .before .args in
     let l = c .before .before .before .before .loop in
-    let block-permits = c .before .block-permits in
-    let if1 = c .if1 in
-    (omega arith, (refl, permits-more (a .policy .now) (a .q .now) (l .k) _ (block-permits .result) (cut (a .policy .now) (512 * l .k) 512) (block-permits .ensures) (if1 .left) (l .inv .1 .1)))
+    let block-permits = c .before .block-permits in (
+      omega arith,
+      l .inv .1,
+      list-more (grants (a .q .now)) (permissionsAt (a .policy .now)) (l .k) _ (l .inv .2) (omega arith)
+          (block-entries (a .policy .now) (a .q .now) (l .k) _ (block-permits .result) false (part-to (a .policy .now) (512 * l .k) 512) (block-permits .ensures) (c .if1 .left)),
+    )
 
 returns-2 : tie.Need-returns-2 Inv-loop μ-loop
 returns-2 c =
     let a = c .before .before .before .before .args in
     let l = c .before .loop in
-    permits-done (a .policy .now) (a .q .now) (l .k) (omega arith) (l .inv .1 .1)
+    list-done (grants (a .q .now)) (permissionsAt (a .policy .now)) (l .k) _ (l .inv .2) (omega arith)
 
 pub permitted-spec : {M : Type 1} → statement M
 permitted-spec =

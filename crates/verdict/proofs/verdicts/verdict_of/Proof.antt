@@ -1,0 +1,92 @@
+-- `verdict::verdicts::verdict_of` meets its contract.
+-- Assumes nothing.
+use mathlib.Core.Path.{_≡_, sym, _∙_}
+use mathlib.Core.Bool.{true}
+use borrow.Author.Tests.{not-true, not-false, eqb-true}
+use Rattle.format.specs.Policy.{policyOf}
+use Rattle.format.specs.Place.{recordsHere}
+use Rattle.judge.specs.Verdict.{permitted as permittedBy}
+use Rattle.verdict.proofs.Judged.{refused-some, verdict-refused, verdict-silent, effect-silent}
+use borrow.Author.Needs.{needs}
+use Rattle.verdict.proofs.verdicts.verdict_of.Statement.{statement}
+use Rattle.verdict.proofs.verdicts.verdict_of.Tie as tie
+
+each-of-requires : tie.Need-each-of-requires
+each-of-requires c κs = search needs
+
+permitted-requires : tie.Need-permitted-requires
+permitted-requires c κs = search needs
+
+no-effect-requires : tie.Need-no-effect-requires
+no-effect-requires c κs = search needs
+
+returns : tie.Need-returns
+returns c =
+    let a = c .before .before .before .before .before .before .before .args in
+    let permitted = c .before .before .permitted in
+    let rs = recordsHere (a .table .now) (a .n) in
+    record {
+      faults = verdict-refused (policyOf (a .policy .now)) (a .q .now) rs (sym (permitted .ensures) ∙ not-true (permitted .result) (c .before .if1 .taken));
+      each-is = c .before .before .before .each-of .ensures;
+      effect-is = λ h. absurd (refused-some h);
+    }
+
+-- step 1 lets it pass
+module _ (c : tie.Else1) where
+  passes : permittedBy (policyOf (c .before .before .before .before .before .before .args .policy .now)) (c .before .before .before .before .before .before .args .q .now) ≡ true
+  passes = let permitted = c .before .permitted in sym (permitted .ensures) ∙ not-false (permitted .result) (c .if1 .left)
+
+match-rules-requires : tie.Need-match-rules-requires
+match-rules-requires c κs = search needs
+
+is-empty-requires : tie.Need-is-empty-requires
+is-empty-requires c κs = search needs
+
+no-effect-requires-2 : tie.Need-no-effect-requires-2
+no-effect-requires-2 c κs = search needs
+
+returns-2 : tie.Need-returns-2
+returns-2 c =
+    let a = c .before .before .before .before .before .before .before .before .before .before .args in
+    let matched = c .before .before .before .match-rules in
+    let is-empty = c .before .before .is-empty in
+    let rs = recordsHere (a .table .now) (a .n) in
+    let nowhere = eqb-true (matched .result .fitting .0) 0 (sym (is-empty .ensures) ∙ c .before .if2 .taken) in
+    record {
+      faults = verdict-silent (a .policy .now) (a .q .now) (matched .result .fitting .0) (matched .ensures .fitting-are) rs nowhere (passes (c .before .before .before .before));
+      each-is = c .before .before .before .before .before .before .each-of .ensures;
+      effect-is = λ h. effect-silent (a .policy .now) (a .q .now) (matched .result .fitting .0) (matched .ensures .fitting-are) rs nowhere _ (c .no-effect2 .ensures .0) (c .no-effect2 .ensures .1);
+    }
+
+judged-few-requires : tie.Need-judged-few-requires
+judged-few-requires c κs =
+    let p = c .before .before .before .before .before .before .before .before .before .before .pre in
+    ((p .0 .accepted, passes (c .before .before .before .before)), ((c .before .before .before .match-rules .ensures, c .before .before .before .before .before .before .each-of .ensures), ((p .1 .0, c .if3 .taken), p .1 .1)))
+
+returns-3 : tie.Need-returns-3
+returns-3 c = search needs
+
+judged-many-requires : tie.Need-judged-many-requires
+judged-many-requires c κs =
+    let p = c .before .before .before .before .before .before .before .before .before .before .pre in
+    ((p .0 .accepted, passes (c .before .before .before .before)), ((c .before .before .before .match-rules .ensures, c .before .before .before .before .before .before .each-of .ensures), (p .1 .0, p .1 .1)))
+
+returns-4 : tie.Need-returns-4
+returns-4 c = search needs
+
+pub verdict-of-spec : {M : Type 1} → statement M
+verdict-of-spec =
+    tie.close
+    (tie.spec
+    each-of-requires
+    permitted-requires
+    no-effect-requires
+    returns
+    match-rules-requires
+    is-empty-requires
+    no-effect-requires-2
+    returns-2
+    judged-few-requires
+    returns-3
+    judged-many-requires
+    returns-4)
