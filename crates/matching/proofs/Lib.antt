@@ -1,3 +1,3 @@
 pub mod Levels
 pub mod Apart
-pub mod Examples
+pub mod RuleSets

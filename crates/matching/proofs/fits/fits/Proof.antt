@@ -1,4 +1,4 @@
--- `request_check::fits::fits` meets its contract.
+-- `matching::fits::fits` meets its contract.
 -- Assumes nothing.
 use borrow.Author.Needs.{needs}
 use Rattle.format.specs.Rule.{ruleAt}

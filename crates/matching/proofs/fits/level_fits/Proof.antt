@@ -1,4 +1,4 @@
--- `request_check::fits::level_fits` meets its contract.
+-- `matching::fits::level_fits` meets its contract.
 -- Assumes nothing.
 use borrow.Author.Needs.{needs}
 use Rattle.format.specs.Fits.{levelFits}

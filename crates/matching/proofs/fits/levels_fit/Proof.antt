@@ -1,4 +1,4 @@
--- `request_check::fits::levels_fit` meets its contract.
+-- `matching::fits::levels_fit` meets its contract.
 -- Assumes nothing.
 use Prim.Native.Nat.{ℕ, _-_, _<_, _≤_}
 use native.Mathlib.Numerals.{add-one}

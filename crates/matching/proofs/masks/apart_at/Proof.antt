@@ -1,4 +1,4 @@
--- `places::masks::apart_at` meets its contract: the code reads the two values.
+-- `matching::masks::apart_at` meets its contract: the code reads the two values.
 -- Assumes nothing.
 use Prim.Native.Nat.{ℕ, _+_, _*_, _<_}
 use mathlib.Core.Path.{_≡_, sym, ap, _∙_}

@@ -1,4 +1,4 @@
--- `places::masks::is_each` meets its contract: the rule's block stands in the policy.
+-- `matching::masks::is_each` meets its contract: the rule's block stands in the policy.
 -- Assumes nothing.
 use Prim.Native.Nat.{_+_, _*_}
 use native.Mathlib.Omega.{arith}
@@ -18,7 +18,7 @@ add-wide : tie.Need-add-wide
 add-wide c = search needs
 
 shared-slice-read-wide : tie.Need-shared-slice-read-wide
-shared-slice-read-wide c = let s = c .before .before in omega (arith, rule-inside (s .args .policy .now) (s .pre .0) (s .args .i) (omega (arith, s .pre .1)))
+shared-slice-read-wide c = let s = c .before .before in omega (arith, rule-inside (s .args .policy .now) (s .pre .0 .accepted) (s .args .i) (omega (arith, s .pre .0 .rules-are, s .pre .1)))
 
 wide-requires : tie.Need-wide-requires
 wide-requires c κs = search needs
@@ -38,7 +38,7 @@ add-result-2 c = search needs
 shared-slice-read-result : tie.Need-shared-slice-read-result
 shared-slice-read-result c =
     let s = c .before .before .before .before in
-    omega (arith, rule-inside (s .args .policy .now) (s .pre .0) (s .args .i) (omega (arith, s .pre .1)), s .pre .1)
+    omega (arith, rule-inside (s .args .policy .now) (s .pre .0 .accepted) (s .args .i) (omega (arith, s .pre .0 .rules-are, s .pre .1)), s .pre .1)
 
 returns : tie.Need-returns
 unfolding isEach policyOf ruleAt

@@ -1,14 +1,14 @@
--- `request_check::steps::does_step` meets its contract.
+-- `matching::steps::does_step` meets its contract.
 -- Assumes nothing.
-use Rattle.words.specs.Bytes.{byteAt}
-use Rattle.request_check.proofs.Privileges.{does-word}
-use Rattle.request_check.specs.RequestWords.{doneWord}
-use Rattle.format.specs.Request.{Request}
-use lib.Seq.{take-all}
-use lib.Dec.{eqb}
+use mathlib.Core.Path.{ap, ap₂, _∙_}
 use mathlib.Core.Bool.{Bool, _&&_}
-use native.Mathlib.Omega.{arith}
-use mathlib.Core.Path.{sym, ap, ap₂, _∙_}
+use lib.Dec.{eqb}
+use Rattle.words.specs.Bytes.{byteAt}
+use Rattle.word_laws.proofs.Parts.{part-whole}
+use Rattle.format.specs.Request.{Request}
+use Rattle.format.specs.Rule.{samePrivilege}
+use Rattle.fields.specs.Code.{doneBy}
+use Rattle.judge.specs.Tally.{does}
 use borrow.Author.Needs.{needs}
 use Rattle.matching.proofs.steps.does_step.Statement.{statement}
 use Rattle.matching.proofs.steps.does_step.Tie as tie
@@ -22,18 +22,17 @@ privilege-requires c κs = search needs
 read-requires : tie.Need-read-requires
 read-requires c κs = search needs
 
+same-requires : tie.Need-same-requires
+same-requires c κs = search needs
+
 returns : tie.Need-returns
+unfolding does
 returns c =
-    let a = c .before .before .before .before .before .before .before .args in
-    let shared-slice-known = c .before .before .before .before .before .before .shared-slice-known in
-    let shared-slice-known2 = c .before .before .before .before .before .shared-slice-known2 in
-    let privilege = c .before .before .before .privilege in
-    let read = c .before .before .read in
-    let whole = take-all 28 (a .q .now) (omega arith) in
-    ap (λ (t : Bool). eqb (byteAt (a .b .now) (a .flag)) 1 && t)
-    (ap₂ {C = Bool} eqb (privilege .ensures ∙ ap (λ (q : Request). doneWord q) whole) (read .ensures)
-    ∙ sym (does-word (a .b .now) (a .q .now) (a .at) (λ i. shared-slice-known .given i .fits) (λ i. shared-slice-known2 .given i .fits)))
+    let start = c .before .before .before .before .before .before in
+    let done = c .before .before .privilege .ensures ∙ ap (λ (q : Request). doneBy q) (part-whole (start .args .q .now) 28 (start .pre .1)) in
+    ap (λ (t : Bool). eqb (byteAt (start .args .b .now) (start .args .flag)) 1 && t)
+    (c .same .ensures ∙ ap₂ {C = Bool} samePrivilege done (c .before .read .ensures))
 
 pub does-step-spec : {M : Type 1} → statement M
 does-step-spec =
-    tie.close (tie.spec shared-slice-read-result privilege-requires read-requires returns)
+    tie.close (tie.spec shared-slice-read-result privilege-requires read-requires same-requires returns)

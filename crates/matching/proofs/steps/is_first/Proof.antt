@@ -1,4 +1,4 @@
--- `request_check::steps::is_first` meets its contract.
+-- `matching::steps::is_first` meets its contract.
 -- Assumes nothing.
 use Rattle.judge.specs.Verdict.{isFirst}
 use Rattle.format.specs.Rule.{ruleAt}

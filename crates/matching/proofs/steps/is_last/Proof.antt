@@ -1,4 +1,4 @@
--- `request_check::steps::is_last` meets its contract.
+-- `matching::steps::is_last` meets its contract.
 -- Assumes nothing.
 use Rattle.judge.specs.Verdict.{isLast}
 use Rattle.format.specs.Rule.{ruleAt}
