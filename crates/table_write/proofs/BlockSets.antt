@@ -4,7 +4,7 @@ use Prim.Native.Nat.{ℕ, _+_, _-_, _*_, _%_, _^_, _<_, _≤_}
 use native.Mathlib.Decide.{decLt}
 use native.Mathlib.Omega.{arith}
 use mathlib.Core.Path.{_≡_, refl, sym, ap, _∙_}
-use mathlib.Core.Bool.{Bool, true, false, cond, _&&_, _||_}
+use mathlib.Core.Bool.{Bool, true, false, cond, _&&_, _||_, false≢true}
 use lib.Bits.{bitOr}
 use lib.Dec.{eqb, leb, ltb}
 use lib.Pow.{pow-lt}
@@ -12,9 +12,9 @@ use borrow.Author.Tests.{eq-eqb, ne-eqb, lt-ltb, le-ltb, le-leb, lt-leb, eqb-tru
 use Rattle.words.specs.Bytes.{bit}
 use Rattle.word_laws.proofs.Bits.{bit-none}
 use Rattle.word_laws.proofs.BitLaws.{bit-or, bit-power}
-use Rattle.word_laws.proofs.Tests.{both-first, both-second}
+use Rattle.word_laws.proofs.Tests.{both-first, both-second, neither-first, neither-second}
 use Rattle.table_write.specs.declared.blocks.BlockSet.{BlockSet}
-use Rattle.table_write.specs.Writing.{hasBlock}
+use Rattle.table_write.specs.Writing.{hasBlock, noBlock}
 
 -- where the block stands
 pub has-low : (set : BlockSet) (k : ℕ) → k < 64 → hasBlock set k ≡ bit k (set .low)
@@ -36,6 +36,9 @@ has-none set k h =
     go : (b : Bool) → cond b false false ≡ false
     go true = refl
     go false = refl
+
+pub no-block : (k : ℕ) → hasBlock noBlock k ≡ false
+no-block k = has-none noBlock k refl
 
 -- the number with one bit, as the code makes it
 power : (k : ℕ) → k < 64 → 1 * 2 ^ k % 2 ^ 64 ≡ 2 ^ k
@@ -93,3 +96,20 @@ range-more from k i b h = go (decLt i k) (decLt k i)
 
 pub in-range : (from to i : ℕ) (b : Bool) → from ≤ i → i < to → (leb from i && ltb i to) || b ≡ true
 in-range from to i b lo hi = rw (le-leb from i lo, lt-ltb i to hi)
+
+-- a block outside the set with a block, or with a range, is outside both
+pub not-with : (set set′ : BlockSet) (k i : ℕ) → hasBlock set′ i ≡ eqb i k || hasBlock set i → hasBlock set′ i ≡ false
+    → (i ≡ k → ⊥) × (hasBlock set i ≡ false)
+not-with set set′ k i is off =
+    let none = sym is ∙ off in
+    (eqb-false i k (neither-first (eqb i k) (hasBlock set i) none), neither-second (eqb i k) (hasBlock set i) none)
+
+pub not-range : (set set′ : BlockSet) (from to i : ℕ) → hasBlock set′ i ≡ (leb from i && ltb i to) || hasBlock set i → hasBlock set′ i ≡ false
+    → (from ≤ i → to ≤ i) × (hasBlock set i ≡ false)
+not-range set set′ from to i is off =
+    let none = sym is ∙ off in
+    (λ lo. go lo (decLt i to), neither-second (leb from i && ltb i to) (hasBlock set i) none)
+  where
+    go : from ≤ i → Dec (i < to) → to ≤ i
+    go lo (yes hi) = absurd (false≢true (sym off ∙ is ∙ in-range from to i (hasBlock set i) lo hi))
+    go lo (no g) = omega arith

@@ -38,6 +38,10 @@ imageBlock t b rs k = blockImage t b k (take blockRecords (drop (blockRecords * 
 unfoldable pub hasBlock : BlockSet → ℕ → Bool
 hasBlock set k = cond (ltb k 64) (bit k (set .low)) (bit (k - 64) (set .high))
 
+-- the set without a block
+abbrev pub noBlock : BlockSet
+noBlock = record { low = 0; high = 0 }
+
 -- outside a set of blocks the table is the image of the n records that stand in it
 pub record ImageBut (t : Sums) (s : List ℕ) (n : ℕ) (set : BlockSet) : Type 0 where
   pub outside : (k : ℕ) → k < blocks s → hasBlock set k ≡ false → block s k ≡ imageBlock t (blocks s) (recordsHere s n) k

@@ -1,10 +1,10 @@
 // Sets of a table's blocks: those that are to be written.
 ghost use mathlib.Core.Path.{_≡_};
-ghost use mathlib.Core.Bool.{Bool, false, _&&_, _||_};
+ghost use mathlib.Core.Bool.{_&&_, _||_};
 ghost use Prim.Native.Nat.{ℕ, _<_, _≤_};
 ghost use lib.Dec.{eqb, leb, ltb};
 ghost use Rattle.format.specs.Layout.{tableBlocks};
-ghost use Rattle.table_write.specs.Writing.{hasBlock};
+ghost use Rattle.table_write.specs.Writing.{hasBlock, noBlock};
 
 // A set of a table's blocks: block k below 64 at bit k of `low`, the others in `high`.
 pub struct BlockSet {
@@ -15,7 +15,7 @@ pub struct BlockSet {
 impl BlockSet {
     // No block.
     pub fn none() -> Self
-        ensures { λ r. ⌜ ((k : ℕ) → hasBlock r k ≡ false) ⌝ }
+        ensures { λ r. ⌜ r ≡ noBlock ⌝ }
     {
         BlockSet { low: 0, high: 0 }
     }

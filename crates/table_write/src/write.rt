@@ -193,3 +193,11 @@ pub fn move_record(table: &mut [u8], from: usize, to: usize, marks: RuleSet)
     move_words(table, from, to, REQUEST_WORDS);
     put_u32(table, to + MARKS_AT, marks.0);
 }
+
+// Puts other marks on the record that begins at a byte.
+pub fn put_marks(table: &mut [u8], at: usize, marks: RuleSet)
+    requires { ⌜ at + recordBytes ≤ length (now table) ⌝ }
+    ensures { λ r. ⌜ now (table .exit) ≡ over (now (table .entry)) at recordBytes (part (now (table .entry)) at requestBytes ++ bytes4 (marks .0)) ⌝ }
+{
+    put_u32(table, at + MARKS_AT, marks.0);
+}
