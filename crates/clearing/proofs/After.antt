@@ -13,14 +13,9 @@ use Rattle.format.specs.Request.{Request}
 use Rattle.format.specs.Table.{Record, hasMark}
 use Rattle.format.specs.Place.{recordsHere}
 use Rattle.judge.specs.NewTable.{sweep}
-use Rattle.places.specs.declared.masks.Each.{Each}
+use Rattle.matching.specs.declared.masks.Each.{Each}
 use Rattle.clearing.specs.Cleared.{clearedBy, leftBy, afterBy}
-use Rattle.clearing.proofs.Left.{sweep-none, sweep-one, length-here, length-swept, left-any}
-
--- where no rule ends, the masks do not matter
-pub after-any : (e e′ : Each) (q : Request) (ends gives : ℕ) (rs : List Record) → ends ≡ 0 → afterBy e q ends gives rs ≡ afterBy e′ q ends gives rs
-unfolding afterBy
-after-any e e′ q ends gives rs z = rw z (ap (λ xs. xs ++ sweep (record { request = q; marks = gives } ∷ [])) (left-any e e′ q rs))
+use Rattle.clearing.proofs.Left.{sweep-none, sweep-one, length-here, length-swept}
 
 module _ (e : Each) (q : Request) (ends : ℕ) where
   pub after-none : (gives : ℕ) (rs : List Record) → gives ≡ 0 → afterBy e q ends gives rs ≡ leftBy e q ends rs

@@ -4,7 +4,7 @@ use Prim.Native.Nat.{ℕ, _+_, _-_}
 use native.Mathlib.Nat.{zero-add}
 use native.Mathlib.Numerals.{add-one}
 use native.Mathlib.Omega.{arith}
-use mathlib.Core.Path.{_≡_, refl, sym, ap, ap₂, _∙_}
+use mathlib.Core.Path.{_≡_, refl, ap, ap₂}
 use mathlib.Core.Bool.{Bool, true, false, cond, not}
 use mathlib.Core.List.{List, [], _∷_, _++_, map}
 use lib.Bits.{and-zero-r, bitAnd}
@@ -18,8 +18,8 @@ use Rattle.format.specs.Request.{Request}
 use Rattle.format.specs.Table.{Record, hasMark}
 use Rattle.format.specs.Place.{recordHere, recordsHere}
 use Rattle.judge.specs.NewTable.{sweep}
-use Rattle.places.specs.declared.masks.Each.{Each}
-use Rattle.places.specs.Masks.{apartBy}
+use Rattle.matching.specs.declared.masks.Each.{Each}
+use Rattle.matching.specs.Masks.{apartBy}
 use Rattle.table_write.proofs.Parts.{tab-more}
 use Rattle.clearing.specs.Cleared.{keptMarks, clearedBy, leftBy}
 
@@ -54,8 +54,13 @@ length-swept r = go (eqb (r .marks) 0)
     go true = refl
     go false = refl
 
+-- one record more
+pub sweep-more : (s : List ℕ) (i : ℕ) → sweep (recordsHere s (i + 1)) ≡ sweep (recordsHere s i) ++ sweep (recordHere s i ∷ [])
+unfolding sweep
+sweep-more s i = rw (records-one s i) (keep-append hasMark (recordsHere s i) (recordHere s i ∷ []))
+
 -- where no rule ends, records with marks stay as they are, whatever the masks
-same-records : (e : Each) (q : Request) (rs : List Record) → map (clearedBy e q 0) rs ≡ rs
+pub same-records : (e : Each) (q : Request) (rs : List Record) → map (clearedBy e q 0) rs ≡ rs
 unfolding clearedBy keptMarks
 same-records e q [] = refl
 same-records e q (r ∷ rs) =
@@ -67,10 +72,6 @@ same-records e q (r ∷ rs) =
 pub left-all : (e : Each) (q : Request) (rs : List Record) → sweep rs ≡ rs → leftBy e q 0 rs ≡ rs
 unfolding leftBy
 left-all e q rs h = rw (same-records e q rs) h
-
-pub left-any : (e e′ : Each) (q : Request) (rs : List Record) → leftBy e q 0 rs ≡ leftBy e′ q 0 rs
-unfolding leftBy
-left-any e e′ q rs = ap sweep (same-records e q rs ∙ sym (same-records e′ q rs))
 
 module _ (e : Each) (q : Request) (ends : ℕ) where
   pub left-start : (s : List ℕ) → leftBy e q ends (recordsHere s 0) ≡ []

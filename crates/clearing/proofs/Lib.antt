@@ -1,4 +1,5 @@
-pub mod Policies
 pub mod Masks
 pub mod Left
 pub mod After
+pub mod MarksCleared
+pub mod RecordsSwept

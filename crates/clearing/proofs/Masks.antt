@@ -1,4 +1,4 @@
--- Numbers of bits with the bits of another taken off, and two tests one after the other.
+-- Numbers of bits with the bits of another taken off.
 -- Assumes nothing.
 use Prim.Native.Nat.{ℕ, _-_, _<_}
 use native.Mathlib.Omega.{arith}
@@ -25,12 +25,3 @@ none-taken m ends a small z = rw none (omega arith)
         ∙ ap (λ b. bit i m && b) (bit-without i ends a)
         ∙ off (bit i m) (bit i ends) (bit i a) (sym (bit-and i m ends) ∙ ap (bit i) z ∙ bit-none i)
         ∙ sym (bit-none i))
-
--- two tests, the second made only where the first passes
-pub first-fails : {x b : Bool} (y : Bool) → x ≡ b → not x ≡ true → false ≡ b && y
-first-fails {x = true} y e t = absurd (false≢true t)
-first-fails {x = false} y e t = rw (← e)
-
-pub first-passes : {x b r y : Bool} → x ≡ b → not x ≡ false → r ≡ y → r ≡ b && y
-first-passes {x = true} e t h = rw (← e) h
-first-passes {x = false} e t h = absurd (false≢true (sym t))

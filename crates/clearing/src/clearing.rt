@@ -1,52 +1,52 @@
-// Marks cleared: which judging rules end with this request, and what that leaves of a record's marks.
+// Marks cleared: what the rules that end leave of a record's marks, and of those of all records.
 ghost use mathlib.Core.Path.{_≡_};
-ghost use Prim.Native.Nat.{_+_, _<_, _≤_};
+ghost use mathlib.Core.List.{map};
+ghost use Prim.Native.Nat.{_+_, _≤_};
 ghost use lib.ListN.{length};
-ghost use Rattle.words.specs.Bytes.{bits};
-ghost use Rattle.format.specs.Policy.{policyOf};
-ghost use Rattle.format.specs.Place.{recordFrom};
-ghost use Rattle.clearing.specs.Cleared.{Given, endsBy, clearedBy};
-use fields::field::bit;
-use fields::field::flag;
-use fields::field::u32_at;
-use fields::field::without;
-use places::masks::Each;
-use places::masks::apart;
-use request_check::steps::is_last;
+ghost use Rattle.format.specs.Layout.{requestBytes, recordBytes};
+ghost use Rattle.format.specs.Place.{recordFrom, recordsHere};
+ghost use Rattle.fields.specs.Code.{HasRoom};
+ghost use Rattle.table_write.specs.Writing.{noBlock, KeptBut};
+ghost use Rattle.clearing.specs.Cleared.{clearedBy};
+use fields::request;
+use fields::sets::RuleSet;
+use fields::tables::Blocks;
+use fields::tables::record_place;
+use matching::masks::Each;
+use matching::masks::apart;
+use table_write::blocks::BlockSet;
+use table_write::write::put_marks;
 
-// Rule i judges, and the request is its last step.
-fn ends_here(policy: &[u8], rules: u32, q: &[u8], judging: u32, i: u32) -> bool
-    requires { ⌜ Given (now policy) rules (now q) ⌝ }
-    requires { ⌜ i < rules ⌝ }
-    ensures { λ r. ⌜ r ≡ endsBy (policyOf (now (policy .entry))) (now (q .entry)) judging i ⌝ }
+// The marks that the record at a byte keeps. Run places are looked at only where it has a mark of a rule that ends.
+pub fn cleared_marks(each: Each, ends: RuleSet, q: &[u8], table: &[u8], at: usize) -> RuleSet
+    requires { ⌜ (length (now q) ≡ requestBytes) × (at + recordBytes ≤ length (now table)) ⌝ }
+    ensures { λ r. ⌜ r .0 ≡ clearedBy each (now (q .entry)) (ends .0) (recordFrom (now (table .entry)) at) .marks ⌝ }
 {
-    if !bit(judging, i) {
-        return false;
-    }
-    let at = 512 * (i as usize);
-    is_last(&policy[at..at + 512], q)
-}
-
-// The judging rules that end with this request, as bits.
-pub fn ending(policy: &[u8], rules: u32, q: &[u8], judging: u32) -> u32
-    requires { ⌜ Given (now policy) rules (now q) ⌝ }
-    ensures { λ r. ⌜ r ≡ bits rules (endsBy (policyOf (now (policy .entry))) (now (q .entry)) judging) ⌝ }
-{
-    let mut ends: u32 = 0;
-    for i in 0..rules {
-        ends = ends + flag(ends_here(policy, rules, q, judging, i), i);
-    }
-    ends
-}
-
-// The marks that the record at a place keeps. Run places are looked at only where it has a mark of a rule that ends.
-pub fn cleared_marks(each: Each, q: &[u8], table: &[u8], at: usize, ends: u32) -> u32
-    requires { ⌜ (length (now q) ≡ 28) × (at + 32 ≤ length (now table)) ⌝ }
-    ensures { λ r. ⌜ r ≡ clearedBy each (now (q .entry)) ends (recordFrom (now (table .entry)) at) .marks ⌝ }
-{
-    let marks = u32_at(table, at + 28);
-    if marks & ends == 0 {
+    let marks = request::marks(table, at);
+    if marks.and(ends).is_empty() {
         return marks;
     }
-    without(marks, without(ends, apart(each, q, table, at)))
+    marks.without(ends.without(apart(each, q, table, at)))
+}
+
+// "Clear its mark in that run place", for each rule that ends. Returns the blocks in which a record's marks changed. Nothing else is written.
+pub fn clear_marks(each: Each, ends: RuleSet, q: &[u8], table: &mut [u8], n: usize) -> BlockSet
+    requires { ⌜ length (now q) ≡ requestBytes ⌝ }
+    requires { ⌜ HasRoom (now table) n ⌝ }
+    ensures { λ r. ⌜ (recordsHere (now (table .exit)) n ≡ map (clearedBy each (now (q .entry)) (ends .0)) (recordsHere (now (table .entry)) n)) × (KeptBut (now (table .entry)) n noBlock (now (table .exit)) n r) ⌝ }
+{
+    let mut changed = BlockSet::none();
+    if ends.is_empty() {
+        return changed;
+    }
+    for i in 0..n {
+        let at = record_place(i);
+        let left = cleared_marks(each, ends, q, table, at);
+        if left.0 == request::marks(table, at).0 {
+            continue;
+        }
+        put_marks(table, at, left);
+        changed = changed.with(i / Blocks::RECORDS);
+    }
+    changed
 }

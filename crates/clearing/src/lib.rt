@@ -1,3 +1,4 @@
-// What a grant clears: which rules end with a request, what that leaves of the records' marks, and whether the table has room then.
+// What a grant does to the records of a table: marks cleared, records without marks swept away, and whether there is room then. Each can be used alone.
 pub mod clearing;
 pub mod room;
+pub mod sweeping;

@@ -1,60 +1,58 @@
-// Whether the new table has room: how many records keep a mark is counted only where the table is full.
+// Whether there is room for the new table: how many records keep a mark is counted only where the table is full.
 ghost use mathlib.Core.Path.{_≡_};
 ghost use mathlib.Core.List.{[], _∷_};
 ghost use Prim.Native.Nat.{_<_, _≤_};
 ghost use lib.ListN.{length};
 ghost use lib.Dec.{leb};
-ghost use Rattle.format.specs.Layout.{capacity};
-ghost use Rattle.format.specs.Block.{blocks};
+ghost use Rattle.format.specs.Layout.{requestBytes};
 ghost use Rattle.format.specs.Place.{recordHere, recordsHere};
-ghost use Rattle.clearing.specs.Cleared.{leftBy, afterBy};
-ghost use Rattle.clearing.specs.Holding.{Holds, AllMarked};
+ghost use Rattle.fields.specs.Code.{HasRoom};
+ghost use Rattle.clearing.specs.Cleared.{leftBy, afterBy, AllMarked};
 use crate::clearing::cleared_marks;
-use places::masks::Each;
-use table_write::blocks::Blocks;
-use table_write::write::record_place;
+use fields::sets::RuleSet;
+use fields::tables::record_place;
+use matching::masks::Each;
+use matching::rules::Effect;
 
 // 1 if record i keeps a mark, and else 0.
-fn stays(each: Each, q: &[u8], table: &[u8], n: usize, i: usize, ends: u32) -> usize
-    requires { ⌜ (length (now q) ≡ 28) × (i < n) ⌝ }
-    requires { ⌜ Holds (now table) n ⌝ }
-    ensures { λ r. ⌜ (r ≡ length (leftBy each (now (q .entry)) ends (recordHere (now (table .entry)) i ∷ []))) × (r ≤ 1) ⌝ }
+fn stays(each: Each, ends: RuleSet, q: &[u8], table: &[u8], n: usize, i: usize) -> usize
+    requires { ⌜ (length (now q) ≡ requestBytes) × (i < n) ⌝ }
+    requires { ⌜ HasRoom (now table) n ⌝ }
+    ensures { λ r. ⌜ (r ≡ length (leftBy each (now (q .entry)) (ends .0) (recordHere (now (table .entry)) i ∷ []))) × (r ≤ 1) ⌝ }
 {
-    if cleared_marks(each, q, table, record_place(i), ends) == 0 {
+    if cleared_marks(each, ends, q, table, record_place(i)).is_empty() {
         return 0;
     }
     1
 }
 
 // How many of the n records keep a mark.
-pub fn kept(each: Each, q: &[u8], table: &[u8], n: usize, ends: u32) -> usize
-    requires { ⌜ length (now q) ≡ 28 ⌝ }
-    requires { ⌜ Holds (now table) n ⌝ }
-    ensures { λ r. ⌜ r ≡ length (leftBy each (now (q .entry)) ends (recordsHere (now (table .entry)) n)) ⌝ }
+pub fn kept(each: Each, ends: RuleSet, q: &[u8], table: &[u8], n: usize) -> usize
+    requires { ⌜ length (now q) ≡ requestBytes ⌝ }
+    requires { ⌜ HasRoom (now table) n ⌝ }
+    ensures { λ r. ⌜ r ≡ length (leftBy each (now (q .entry)) (ends .0) (recordsHere (now (table .entry)) n)) ⌝ }
 {
     let mut count: usize = 0;
     for i in 0..n {
-        count = count + stays(each, q, table, n, i, ends);
+        count = count + stays(each, ends, q, table, n, i);
     }
     count
 }
 
-// The records that are left, and the request if it has a mark, are no more than the table has places for.
-pub fn has_room(each: Each, q: &[u8], table: &[u8], n: usize, ends: u32, gives: u32) -> bool
-    requires { ⌜ length (now q) ≡ 28 ⌝ }
-    requires { ⌜ Holds (now table) n ⌝ }
-    requires { ⌜ AllMarked (now table) n ⌝ }
-    ensures { λ r. ⌜ r ≡ leb (length (afterBy each (now (q .entry)) ends gives (recordsHere (now (table .entry)) n))) (capacity (blocks (now (table .entry)))) ⌝ }
+// The records that are left, and the request if it has a mark, are no more than there is room for.
+pub fn has_room(each: Each, effect: Effect, q: &[u8], table: &[u8], n: usize, room: usize) -> bool
+    requires { ⌜ (length (now q) ≡ requestBytes) × (n ≤ room) ⌝ }
+    requires { ⌜ (HasRoom (now table) n) × (AllMarked (now table) n) ⌝ }
+    ensures { λ r. ⌜ r ≡ leb (length (afterBy each (now (q .entry)) (effect .ends .0) (effect .gives .0) (recordsHere (now (table .entry)) n))) room ⌝ }
 {
-    let places = Blocks(table.len() / 512).capacity();
-    if gives == 0 {
+    if effect.gives.is_empty() {
         return true;
     }
-    if n < places {
+    if n < room {
         return true;
     }
-    if ends == 0 {
+    if effect.ends.is_empty() {
         return false;
     }
-    kept(each, q, table, n, ends) < places
+    kept(each, effect.ends, q, table, n) < room
 }

@@ -10,9 +10,10 @@ use lib.Seq.{sets, length-take-le, take-add, drop-drop}
 use Rattle.words.specs.Bytes.{u32At, bytes4, part}
 use Rattle.word_laws.proofs.Every.{Every}
 use Rattle.word_laws.proofs.Bytes.{Byte, bytes4-u32At}
+use Rattle.word_laws.proofs.Parts.{u32At-part}
 use Rattle.table_write.specs.Writing.{over}
 use Rattle.table_write.proofs.Over.{stored}
-use Rattle.table_write.proofs.Parts.{u32At-part, part-behind}
+use Rattle.table_write.proofs.Parts.{part-behind}
 
 module _ (src : List ℕ) (bytes : Every Byte src) (from i : ℕ) (inside : from + 4 * i + 4 ≤ length src) where
   -- one word more of the source

@@ -1,4 +1,5 @@
 pub mod SliceBytes
+pub mod BlockSets
 pub mod Over
 pub mod Sealing
 pub mod Parts

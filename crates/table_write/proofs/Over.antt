@@ -62,3 +62,7 @@ stored s vs ws at n p q sized fits =
 -- a part of a slice that was lent and came back
 pub part-back : (s ys zs : List ℕ) (at m n : ℕ) → m ≡ n → ys ≡ zs → take at s ++ (ys ++ drop m (drop at s)) ≡ over s at n zs
 part-back s ys zs at m n e p = rw (e, p, drop-drop, append-assoc)
+
+-- bytes replaced behind others that stay
+pub stays-before : (s vs : List ℕ) (at i n : ℕ) → over s (at + i) n vs ≡ over s at (i + n) (part s at i ++ vs)
+stays-before s vs at i n = rw (take-add at i s, append-assoc (take at s) (part s at i) vs, add-assoc at i n)

@@ -1,14 +1,13 @@
--- Parts of a part, of bytes that were replaced, and of a list that is made by index.
+-- Parts of a list in which bytes were replaced, and of a list that is made by index.
 -- Assumes nothing.
 use Prim.Native.Nat.{ℕ, zero, suc, _+_, _-_, _≤_, _<_, min}
-use native.Mathlib.Nat.{add-assoc}
 use native.Mathlib.Omega.{arith}
 use mathlib.Core.Path.{_≡_, refl, sym, ap, _∙_}
 use mathlib.Core.List.{List, [], _∷_, _++_, append-assoc}
-use lib.ListN.{length, getD, take, drop}
-use lib.Seq.{length-take-le, take-at, drop-at, take-take, drop-drop, getD-take, getD-drop}
+use lib.ListN.{length, take, drop}
+use lib.Seq.{length-take-le, take-at, drop-at, take-take}
 use Rattle.words.specs.Lists.{tab}
-use Rattle.words.specs.Bytes.{u32At, part}
+use Rattle.words.specs.Bytes.{part}
 use Rattle.table_write.specs.Writing.{over}
 use Rattle.table_write.proofs.Over.{take-over, drop-over}
 
@@ -20,22 +19,6 @@ module _ {A : Type 0} where
   part-take zero (suc i) n l h = absurd (omega arith)
   part-take (suc m) (suc i) n [] h = refl
   part-take (suc m) (suc i) n (x ∷ l) h = part-take m i n l (omega arith)
-
-  pub part-part : (l : List A) (at m i n : ℕ) → i + n ≤ m → take n (drop i (take m (drop at l))) ≡ take n (drop (at + i) l)
-  part-part l at m i n h = part-take m i n (drop at l) h ∙ ap (take n) (drop-drop i at l)
-
-getD-part : (s : List ℕ) (at m i : ℕ) → i < m → getD (part s at m) i 0 ≡ getD s (at + i) 0
-getD-part s at m i h = getD-take m (drop at s) i 0 h ∙ getD-drop at s i 0
-
-pub u32At-part : (s : List ℕ) (at m i : ℕ) → i + 4 ≤ m → u32At (part s at m) i ≡ u32At s (at + i)
-u32At-part s at m i h =
-    rw (
-      getD-part s at m i (omega arith),
-      getD-part s at m (i + 1) (omega arith),
-      getD-part s at m (i + 2) (omega arith),
-      getD-part s at m (i + 3) (omega arith),
-    )
-    (rw (← add-assoc at i 1, ← add-assoc at i 2, ← add-assoc at i 3))
 
 -- ---- a part of a list in which bytes were replaced
 

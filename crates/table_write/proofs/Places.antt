@@ -16,6 +16,7 @@ use Rattle.words.specs.Sums.{Sums}
 use Rattle.word_laws.proofs.Every.{Every, every-take, every-drop, every-tab}
 use Rattle.word_laws.proofs.Lists.{tab-cong, tab-getD}
 use Rattle.word_laws.proofs.Bytes.{Byte, u32At-below}
+use Rattle.word_laws.proofs.Parts.{part-part, u32At-part}
 use Rattle.format.specs.Layout.{blockBytes, blockRecords, recordsAt, recordBytes, requestBytes, capacity}
 use Rattle.format.specs.Block.{block}
 use Rattle.format.specs.Table.{Record, recordAt, recordImage, tableImage}
@@ -25,7 +26,7 @@ use Rattle.format_laws.proofs.RecordImage.{Whole, record-of-image}
 use Rattle.format_laws.proofs.BlockImage.{noRecord, record-read}
 use Rattle.format_laws.proofs.TableImage.{chunk, few, image-block}
 use Rattle.table_write.proofs.Over.{length-over}
-use Rattle.table_write.proofs.Parts.{part-part, u32At-part, part-before, part-behind, part-here, tab-more, part-tab}
+use Rattle.table_write.proofs.Parts.{part-before, part-behind, part-here, tab-more, part-tab}
 
 -- ---- the places
 

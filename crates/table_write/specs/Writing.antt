@@ -2,14 +2,17 @@
 -- Assumes nothing.
 use Prim.Native.Nat.{ℕ, _+_, _-_, _*_, _≤_, _<_, min}
 use mathlib.Core.Path.{_≡_}
+use mathlib.Core.Bool.{Bool, false, cond}
 use mathlib.Core.List.{List, _++_}
-use lib.ListN.{take, drop}
-use Rattle.words.specs.Bytes.{bytes2, bytes4, zeros}
+use lib.ListN.{length, take, drop}
+use lib.Dec.{ltb}
+use Rattle.words.specs.Bytes.{bytes2, bytes4, zeros, bit}
 use Rattle.words.specs.Sums.{Sums}
 use Rattle.format.specs.Layout.{blockRecords, tableKind}
 use Rattle.format.specs.Block.{blocks, block, sumBytes}
 use Rattle.format.specs.Table.{Record, blockImage}
 use Rattle.format.specs.Place.{recordsHere}
+use Rattle.table_write.specs.declared.blocks.BlockSet.{BlockSet}
 
 -- the n bytes from a place on replaced by these n
 abbrev pub over : List ℕ → ℕ → ℕ → List ℕ → List ℕ
@@ -31,7 +34,22 @@ countIn n k = min blockRecords (n - blockRecords * k)
 abbrev pub imageBlock : Sums → ℕ → List Record → ℕ → List ℕ
 imageBlock t b rs k = blockImage t b k (take blockRecords (drop (blockRecords * k) rs))
 
--- outside the blocks from, .., to - 1 the table is the image of the n records that stand in it
-pub record ImageOutside (t : Sums) (s : List ℕ) (n from to : ℕ) : Type 0 where
-  pub before : (k : ℕ) → k < from → block s k ≡ imageBlock t (blocks s) (recordsHere s n) k
-  pub behind : (k : ℕ) → to ≤ k → k < blocks s → block s k ≡ imageBlock t (blocks s) (recordsHere s n) k
+-- block k is in a set of blocks
+unfoldable pub hasBlock : BlockSet → ℕ → Bool
+hasBlock set k = cond (ltb k 64) (bit k (set .low)) (bit (k - 64) (set .high))
+
+-- the set without a block
+abbrev pub noBlock : BlockSet
+noBlock = record { low = 0; high = 0 }
+
+-- outside a set of blocks the table is the image of the n records that stand in it
+pub record ImageBut (t : Sums) (s : List ℕ) (n : ℕ) (set : BlockSet) : Type 0 where
+  pub outside : (k : ℕ) → k < blocks s → hasBlock set k ≡ false → block s k ≡ imageBlock t (blocks s) (recordsHere s n) k
+
+-- table s of n records has become s′ of n′, and the set of its blocks that have changed has become set′. "Write .. only blocks whose records
+-- differ": a block outside set′ has its bytes and as many records as before, and was outside the set before.
+pub record KeptBut (s : List ℕ) (n : ℕ) (set : BlockSet) (s′ : List ℕ) (n′ : ℕ) (set′ : BlockSet) : Type 0 where
+  pub long : length s′ ≡ length s
+  pub before : (k : ℕ) → hasBlock set′ k ≡ false → hasBlock set k ≡ false
+  pub same : (k : ℕ) → hasBlock set′ k ≡ false → block s′ k ≡ block s k
+  pub as-many : (k : ℕ) → hasBlock set′ k ≡ false → countIn n′ k ≡ countIn n k

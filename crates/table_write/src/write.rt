@@ -7,13 +7,32 @@ ghost use lib.ListN.{length, take};
 ghost use Rattle.words.specs.Lists.{tab};
 ghost use Rattle.words.specs.Bytes.{zeros, part, bytes4};
 ghost use Rattle.sums.specs.Code.{sumsOf};
+ghost use Rattle.format.specs.Layout.{blockBytes, checkAt, spareAt, recordsAt, blockRecords, recordBytes, requestBytes, tableBlocks};
 ghost use Rattle.format.specs.Block.{blocks, block as blockAt, goodLength, sumBytes, sealed};
 ghost use Rattle.format.specs.Table.{recordAt, blockImage, tableImage};
-ghost use Rattle.format.specs.Place.{recordPlace, recordsHere};
-ghost use Rattle.table_write.specs.Writing.{over, numbersImage, headerImage, countIn, ImageOutside};
+ghost use Rattle.format.specs.Place.{recordsHere};
+ghost use Rattle.table_write.specs.Writing.{over, numbersImage, headerImage, countIn, ImageBut};
+use crate::blocks::BlockSet;
 use fields::field::put_u16;
 use fields::field::put_u32;
 use fields::field::u32_at;
+use fields::layout::BLOCK_BYTES;
+use fields::layout::CHECK_AT;
+use fields::layout::CHECKED_WORDS;
+use fields::layout::COUNT_AT;
+use fields::layout::KIND_AT;
+use fields::layout::MARKS_AT;
+use fields::layout::NUMBER_AT;
+use fields::layout::RECORD_BYTES;
+use fields::layout::RECORDS_AT;
+use fields::layout::REQUEST_WORDS;
+use fields::layout::SPARE_AT;
+use fields::layout::SPARE_BYTES;
+use fields::layout::STAMP_AT;
+use fields::layout::TABLE_KIND;
+use fields::layout::TOTAL_AT;
+use fields::sets::RuleSet;
+use fields::tables::Blocks;
 use sums::sum::Sum;
 use sums::sum::sum_words;
 
@@ -21,14 +40,14 @@ use sums::sum::sum_words;
 
 // A block's first 10 bytes: its kind, its number, the blocks in all, its records.
 fn put_numbers(block: &mut [u8], total: usize, k: usize, count: usize)
-    requires { ⌜ 10 ≤ length (now block) ⌝ }
+    requires { ⌜ spareAt ≤ length (now block) ⌝ }
     requires { ⌜ (k < 65536) × (total < 65536) × (count < 65536) ⌝ }
-    ensures { λ r. ⌜ now (block .exit) ≡ over (now (block .entry)) 0 10 (numbersImage total k count) ⌝ }
+    ensures { λ r. ⌜ now (block .exit) ≡ over (now (block .entry)) 0 spareAt (numbersImage total k count) ⌝ }
 {
-    put_u32(block, 0, 2);
-    put_u16(block, 4, k as u32);
-    put_u16(block, 6, total as u32);
-    put_u16(block, 8, count as u32);
+    put_u32(block, KIND_AT, TABLE_KIND);
+    put_u16(block, NUMBER_AT, k as u32);
+    put_u16(block, TOTAL_AT, total as u32);
+    put_u16(block, COUNT_AT, count as u32);
 }
 
 // Zeros n bytes.
@@ -52,95 +71,89 @@ fn put_sums(s: &mut [u8], at: usize, sum: Sum)
 
 // A block's first 24 bytes.
 fn put_header(block: &mut [u8], stamp: Sum, total: usize, k: usize, count: usize)
-    requires { ⌜ 24 ≤ length (now block) ⌝ }
+    requires { ⌜ recordsAt ≤ length (now block) ⌝ }
     requires { ⌜ (k < 65536) × (total < 65536) × (count < 65536) ⌝ }
-    ensures { λ r. ⌜ now (block .exit) ≡ over (now (block .entry)) 0 24 (headerImage (sumsOf stamp) total k count) ⌝ }
+    ensures { λ r. ⌜ now (block .exit) ≡ over (now (block .entry)) 0 recordsAt (headerImage (sumsOf stamp) total k count) ⌝ }
 {
     put_numbers(block, total, k, count);
-    zero_fill(block, 10, 6);
-    put_sums(block, 16, stamp);
+    zero_fill(block, SPARE_AT, SPARE_BYTES);
+    put_sums(block, STAMP_AT, stamp);
 }
 
-// A block's check, over the 504 bytes before it.
+// A block's check, over the words before it.
 fn put_check(block: &mut [u8])
-    requires { ⌜ length (now block) ≡ 512 ⌝ }
-    ensures { λ r. ⌜ now (block .exit) ≡ sealed (take 504 (now (block .entry))) ⌝ }
+    requires { ⌜ length (now block) ≡ blockBytes ⌝ }
+    ensures { λ r. ⌜ now (block .exit) ≡ sealed (take checkAt (now (block .entry))) ⌝ }
 {
-    let sum = sum_words(block, 0, 126);
-    put_sums(block, 504, sum);
+    let sum = sum_words(block, 0, CHECKED_WORDS);
+    put_sums(block, CHECK_AT, sum);
 }
 
 // Block k of a table, made of the records that stand in it.
 fn seal(block: &mut [u8], stamp: Sum, total: usize, k: usize, count: usize)
-    requires { ⌜ length (now block) ≡ 512 ⌝ }
-    requires { ⌜ (k < total) × (total ≤ 128) × (count ≤ 15) ⌝ }
+    requires { ⌜ length (now block) ≡ blockBytes ⌝ }
+    requires { ⌜ (k < total) × (total ≤ tableBlocks) × (count ≤ blockRecords) ⌝ }
     ensures { λ r. ⌜ now (block .exit) ≡ blockImage (sumsOf stamp) total k (tab (recordAt (now (block .entry))) 0 count) ⌝ }
 {
     put_header(block, stamp, total, k, count);
-    let end = 24 + 32 * count;
-    zero_fill(block, end, 504 - end);
+    let end = RECORDS_AT + RECORD_BYTES * count;
+    zero_fill(block, end, CHECK_AT - end);
     put_check(block);
 }
 
 // The same of a block that stands in a table.
 pub fn seal_block(table: &mut [u8], stamp: Sum, total: usize, k: usize, count: usize)
-    requires { ⌜ length (now table) ≡ 512 * total ⌝ }
-    requires { ⌜ (k < total) × (total ≤ 128) × (count ≤ 15) ⌝ }
-    ensures { λ r. ⌜ now (table .exit) ≡ over (now (table .entry)) (512 * k) 512 (blockImage (sumsOf stamp) total k (tab (recordAt (blockAt (now (table .entry)) k)) 0 count)) ⌝ }
+    requires { ⌜ length (now table) ≡ blockBytes * total ⌝ }
+    requires { ⌜ (k < total) × (total ≤ tableBlocks) × (count ≤ blockRecords) ⌝ }
+    ensures { λ r. ⌜ now (table .exit) ≡ over (now (table .entry)) (blockBytes * k) blockBytes (blockImage (sumsOf stamp) total k (tab (recordAt (blockAt (now (table .entry)) k)) 0 count)) ⌝ }
 {
-    let at = 512 * k;
-    seal(&mut table[at..at + 512], stamp, total, k, count);
+    let at = BLOCK_BYTES * k;
+    seal(&mut table[at..at + BLOCK_BYTES], stamp, total, k, count);
 }
 
 // ---- a table
 
 // How many of n records stand in block k.
 fn records_in(n: usize, k: usize) -> usize
-    requires { ⌜ k < 128 ⌝ }
+    requires { ⌜ k < tableBlocks ⌝ }
     ensures { λ r. ⌜ r ≡ countIn n k ⌝ }
 {
-    let first = 15 * k;
+    let first = Blocks::RECORDS * k;
     if n <= first {
         return 0;
     }
-    if n - first < 15 {
+    if n - first < Blocks::RECORDS {
         return n - first;
     }
-    15
+    Blocks::RECORDS
 }
 
-// Writes the blocks from, .., to - 1 of a table that is an image everywhere else, around the n records that stand in it.
-// Writing a table is writing one block, for each block that has changed.
-pub fn seal_blocks(table: &mut [u8], stamp: Sum, n: usize, from: usize, to: usize)
-    requires { ⌜ (length (now table) ≡ 512 * blocks (now table)) × (blocks (now table) ≤ 128) ⌝ }
-    requires { ⌜ (from ≤ to) × (to ≤ blocks (now table)) ⌝ }
-    requires { ⌜ ImageOutside (sumsOf stamp) (now table) n from to ⌝ }
+// Writes the blocks of a set around the n records that stand in a table that is an image everywhere else.
+// A block is written because its records differ: the caller says which do.
+pub fn seal_blocks(table: &mut [u8], stamp: Sum, n: usize, changed: BlockSet)
+    requires { ⌜ (length (now table) ≡ blockBytes * blocks (now table)) × (blocks (now table) ≤ tableBlocks) ⌝ }
+    requires { ⌜ ImageBut (sumsOf stamp) (now table) n changed ⌝ }
     ensures { λ r. ⌜ now (table .exit) ≡ tableImage (sumsOf stamp) (blocks (now (table .entry))) (recordsHere (now (table .entry)) n) ⌝ }
 {
-    let total = table.len() / 512;
-    for k in from..to {
+    let total = table.len() / BLOCK_BYTES;
+    for k in 0..total {
+        if !changed.has(k) {
+            continue;
+        }
         seal_block(table, stamp, total, k, records_in(n, k));
     }
 }
 
 // A table of as many blocks as the buffer has room for, with no record.
 pub fn fresh(table: &mut [u8], stamp: Sum)
-    requires { ⌜ goodLength 128 (now table) ≡ true ⌝ }
+    requires { ⌜ goodLength tableBlocks (now table) ≡ true ⌝ }
     ensures { λ r. ⌜ now (table .exit) ≡ tableImage (sumsOf stamp) (blocks (now (table .entry))) [] ⌝ }
 {
-    let total = table.len() / 512;
-    seal_blocks(table, stamp, 0, 0, total);
+    let total = table.len() / BLOCK_BYTES;
+    seal_blocks(table, stamp, 0, BlockSet::none().with_range(0, total));
 }
 
 // ---- a record
-
-// The byte at which record i begins.
-pub fn record_place(i: usize) -> usize
-    requires { ⌜ i ≤ 1920 ⌝ }
-    ensures { λ r. ⌜ r ≡ recordPlace i ⌝ }
-{
-    512 * (i / 15) + 24 + 32 * (i % 15)
-}
 
 // Copies n words of another slice.
 fn copy_words(s: &mut [u8], at: usize, from: &[u8], n: usize)
@@ -164,19 +177,27 @@ fn move_words(s: &mut [u8], from: usize, to: usize, n: usize)
 }
 
 // Puts a record, a request and its marks, at a byte.
-pub fn put_record(table: &mut [u8], at: usize, request: &[u8], marks: u32)
-    requires { ⌜ (at + 32 ≤ length (now table)) × (length (now request) ≡ 28) ⌝ }
-    ensures { λ r. ⌜ now (table .exit) ≡ over (now (table .entry)) at 32 (now (request .entry) ++ bytes4 marks) ⌝ }
+pub fn put_record(table: &mut [u8], at: usize, request: &[u8], marks: RuleSet)
+    requires { ⌜ (at + recordBytes ≤ length (now table)) × (length (now request) ≡ requestBytes) ⌝ }
+    ensures { λ r. ⌜ now (table .exit) ≡ over (now (table .entry)) at recordBytes (now (request .entry) ++ bytes4 (marks .0)) ⌝ }
 {
-    copy_words(table, at, request, 7);
-    put_u32(table, at + 28, marks);
+    copy_words(table, at, request, REQUEST_WORDS);
+    put_u32(table, at + MARKS_AT, marks.0);
 }
 
 // Puts the record that begins at one byte at another that is not behind it, with these marks.
-pub fn move_record(table: &mut [u8], from: usize, to: usize, marks: u32)
-    requires { ⌜ (to ≤ from) × (from + 32 ≤ length (now table)) ⌝ }
-    ensures { λ r. ⌜ now (table .exit) ≡ over (now (table .entry)) to 32 (part (now (table .entry)) from 28 ++ bytes4 marks) ⌝ }
+pub fn move_record(table: &mut [u8], from: usize, to: usize, marks: RuleSet)
+    requires { ⌜ (to ≤ from) × (from + recordBytes ≤ length (now table)) ⌝ }
+    ensures { λ r. ⌜ now (table .exit) ≡ over (now (table .entry)) to recordBytes (part (now (table .entry)) from requestBytes ++ bytes4 (marks .0)) ⌝ }
 {
-    move_words(table, from, to, 7);
-    put_u32(table, to + 28, marks);
+    move_words(table, from, to, REQUEST_WORDS);
+    put_u32(table, to + MARKS_AT, marks.0);
+}
+
+// Puts other marks on the record that begins at a byte.
+pub fn put_marks(table: &mut [u8], at: usize, marks: RuleSet)
+    requires { ⌜ at + recordBytes ≤ length (now table) ⌝ }
+    ensures { λ r. ⌜ now (table .exit) ≡ over (now (table .entry)) at recordBytes (part (now (table .entry)) at requestBytes ++ bytes4 (marks .0)) ⌝ }
+{
+    put_u32(table, at + MARKS_AT, marks.0);
 }

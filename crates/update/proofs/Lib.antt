@@ -1,7 +1,6 @@
-pub mod Compaction
 pub mod Standing
 pub mod Marks
 pub mod AfterLaws
-pub mod Judged
+pub mod Judgement
 pub mod Outcomes
 pub mod Updates

@@ -1,20 +1,24 @@
 -- Steps 4 and 5 over bytes: what they answer, and the table that they leave.
 -- Assumes nothing.
 use Prim.Native.Nat.{ℕ}
-use mathlib.Core.Bool.{Bool, not, _&&_}
+use mathlib.Core.Path.{_≡_}
 use mathlib.Core.List.{List}
+use mathlib.Core.Option.{none}
 use lib.ListN.{length}
 use lib.Dec.{leb}
 use Rattle.words.specs.First.{unless}
-use Rattle.words.specs.Bytes.{bit, bits}
+use Rattle.words.specs.Sums.{Sums}
 use Rattle.format.specs.Answer.{Answer, grant, refuse, refusal, Outcome, refusing}
 use Rattle.format.specs.Layout.{capacity}
 use Rattle.format.specs.Block.{blocks}
 use Rattle.format.specs.Request.{Request}
-use Rattle.format.specs.Policy.{Policy, policyOf, stamp}
-use Rattle.format.specs.Table.{recordsOf, tableImage}
-use Rattle.judge.specs.Verdict.{isLast, judges}
+use Rattle.format.specs.Policy.{policyFault, policyOf, stamp}
+use Rattle.format.specs.Table.{tableFault, recordsOf, tableImage}
 use Rattle.judge.specs.NewTable.{openIn, grantOf, tableAfter}
+use Rattle.matching.specs.declared.masks.Each.{Each}
+use Rattle.matching.specs.declared.rules.Effect.{Effect}
+use Rattle.matching.specs.Masks.{EachOf}
+use Rattle.matching.specs.Sets.{EffectIs}
 use Rattle.update.specs.declared.grant.Grant as declared
 use Rattle.update.specs.declared.grant.Updated.{Updated}
 use Rattle.update.specs.declared.grant.Updated.the-variants.{Full, Granted}
@@ -24,14 +28,15 @@ abbrev pub answerOf : Updated → Answer
 answerOf Full = refuse (refusal 34 0 0)
 answerOf (Granted g) = grant (g .recorded) (g .removed) (g .held)
 
--- the judging rules, as bits
-unfoldable pub judgingOf : List ℕ → List ℕ → List ℕ → ℕ
-judgingOf policy table q =
-    bits (policyOf policy .rules) (λ i. judges (policyOf policy .rule i) q (openIn (policyOf policy) (recordsOf table) q i))
-
--- rule i judges, by the bits of a number, and this is not its last step
-unfoldable pub givesBy : Policy → Request → ℕ → ℕ → Bool
-givesBy p q judging i = bit i judging && not (isLast (p .rule i) q)
+-- what the code is given, under a policy: it is accepted, and its stamp is t; the table is accepted, and has n records; the four masks are the
+-- policy's; and what a grant of the request ends and gives is what step 4 says
+pub record Judged (policy : List ℕ) (t : Sums) (e : Each) (effect : Effect) (q : Request) (table : List ℕ) (n : ℕ) : Type 0 where
+  pub accepted : policyFault policy ≡ none
+  pub stamp-is : t ≡ stamp policy
+  pub accepted-table : tableFault policy table ≡ none
+  pub held-are : n ≡ length (recordsOf table)
+  pub masks : EachOf (policyOf policy) e
+  pub effect-is : EffectIs (policyOf policy) q (openIn (policyOf policy) (recordsOf table) q) effect
 
 -- what a request that has passed steps 1 to 3 gets: the refusal 34 and the table as it was, or the grant and the new table
 unfoldable pub updateOf : List ℕ → List ℕ → List ℕ → Outcome (List ℕ)

@@ -1,30 +1,44 @@
 -- `crate::clearing::cleared_marks` meets its contract: what the run places say matters only where a mark may go.
 -- Assumes nothing.
-use Prim.Native.Nat.{ℕ, _-_}
+use Prim.Native.Nat.{ℕ, _+_, _-_, _<_}
+use native.Mathlib.Omega.{arith}
 use mathlib.Core.Path.{sym, ap, ap₂, _∙_}
 use lib.Bits.{bitAnd}
+use borrow.Author.Tests.{eqb-true}
 use Rattle.words.specs.Bytes.{part}
-use Rattle.places.specs.Masks.{apartBy}
+use Rattle.word_laws.proofs.Bytes.{u32At-below}
+use Rattle.matching.specs.Masks.{apartBy}
+use Rattle.table_write.proofs.SliceBytes.{slice-bytes}
 use Rattle.clearing.specs.Cleared.{keptMarks, clearedBy}
 use Rattle.clearing.proofs.Masks.{none-taken}
 use borrow.Author.Needs.{needs}
 use Rattle.clearing.proofs.clearing.cleared_marks.Statement.{statement}
 use Rattle.clearing.proofs.clearing.cleared_marks.Tie as tie
 
-add-u32-at : tie.Need-add-u32-at
-add-u32-at c = search needs
+marks-requires : tie.Need-marks-requires
+marks-requires c κs = search needs
 
-u32-at-requires : tie.Need-u32-at-requires
-u32-at-requires c κs = search needs
+and-requires : tie.Need-and-requires
+and-requires c κs = search needs
+
+is-empty-requires : tie.Need-is-empty-requires
+is-empty-requires c κs = search needs
 
 returns : tie.Need-returns
 unfolding clearedBy keptMarks
 returns c =
-    let u = c .before in
-    let a = u .before .before .before .args in
-    let m = u .u32-at .result in
-    sym (none-taken m (a .ends) (apartBy (a .each) (a .q .now) (part (a .table .now) (a .at) 28)) (u .u32-at .ok) (c .if1 .taken))
-    ∙ ap (λ x. x - bitAnd x (a .ends - bitAnd (a .ends) (apartBy (a .each) (a .q .now) (part (a .table .now) (a .at) 28)))) (u .u32-at .ensures)
+    let e = c .before in
+    let n = e .before in
+    let m = n .before in
+    let a = m .before .before .before .args in
+    let marks = m .marks .result .0 in
+    let there = apartBy (a .each) (a .q .now) (part (a .table .now) (a .at) 28) in
+    let none = sym (n .and .ensures) ∙ eqb-true (n .and .result .0) 0 (sym (e .is-empty .ensures) ∙ c .if1 .taken) in
+    let t = a .table .now in
+    let small : marks < 4294967296 =
+    rw (m .marks .ensures) (u32At-below t (slice-bytes t (m .before .shared-slice-known2 .given)) (a .at + 28) (omega arith)) in
+    sym (none-taken marks (a .ends .0) there small none)
+    ∙ ap (λ x. x - bitAnd x (a .ends .0 - bitAnd (a .ends .0) there)) (m .marks .ensures)
 
 apart-requires : tie.Need-apart-requires
 apart-requires c κs = search needs
@@ -40,10 +54,20 @@ unfolding clearedBy keptMarks
 returns-2 c =
     let w = c .before in
     let k = w .before in
-    let u = k .before .before in
-    let ends = u .before .before .before .args .ends in
+    let m = k .before .before .before .before in
+    let ends = m .before .before .before .args .ends .0 in
     c .without2 .ensures
-    ∙ ap₂ {C = ℕ} (λ x y. x - bitAnd x y) (u .u32-at .ensures) (w .without .ensures ∙ ap (λ a. ends - bitAnd ends a) (k .apart .ensures))
+    ∙ ap₂ {C = ℕ} (λ x y. x - bitAnd x y) (m .marks .ensures) (w .without .ensures ∙ ap (λ a. ends - bitAnd ends a) (k .apart .ensures))
 
 pub cleared-marks-spec : {M : Type 1} → statement M
-cleared-marks-spec = tie.close (tie.spec add-u32-at u32-at-requires returns apart-requires without-requires without-requires-2 returns-2)
+cleared-marks-spec =
+    tie.close
+    (tie.spec
+    marks-requires
+    and-requires
+    is-empty-requires
+    returns
+    apart-requires
+    without-requires
+    without-requires-2
+    returns-2)

@@ -13,15 +13,15 @@ use Rattle.clearing.proofs.room.kept.Statement.{statement}
 use Rattle.clearing.proofs.room.kept.Tie as tie
 
 abbrev Inv-loop : tie.InvT-loop
-Inv-loop each q table n ends count₀ i₀ count i = (i ≤ n) × ((count ≤ i) × (count ≡ length (leftBy each q ends (recordsHere table i))))
+Inv-loop each ends q table n count₀ i₀ count i = (i ≤ n) × ((count ≤ i) × (count ≡ length (leftBy each q (ends .0) (recordsHere table i))))
 
 abbrev μ-loop : tie.MeasureT-loop
-μ-loop each q table n ends count₀ i₀ count i = n - i
+μ-loop each ends q table n count₀ i₀ count i = n - i
 
 loop-holds : tie.Need-loop-holds Inv-loop μ-loop
 loop-holds c =
     let a = c .before .before .args in
-    (omega arith, (omega arith, sym (ap length (left-start (a .each) (a .q .now) (a .ends) (a .table .now)))))
+    (omega arith, (omega arith, sym (ap length (left-start (a .each) (a .q .now) (a .ends .0) (a .table .now)))))
 
 stays-requires : tie.Need-stays-requires Inv-loop μ-loop
 stays-requires c κs = let s = c .before .before .before .before in ((s .pre .0, omega arith), s .pre .1)
@@ -44,8 +44,8 @@ loop-again c =
       (
         omega arith,
         ap₂ (λ (x y : ℕ). x + y) (l .inv .1 .1) (c .stays .ensures .0)
-            ∙ sym (ap length (left-more (a .each) (a .q .now) (a .ends) s (l .i))
-            ∙ length-append (leftBy (a .each) (a .q .now) (a .ends) (recordsHere s (l .i))) (leftBy (a .each) (a .q .now) (a .ends) (recordHere s (l .i) ∷ []))),
+            ∙ sym (ap length (left-more (a .each) (a .q .now) (a .ends .0) s (l .i))
+            ∙ length-append (leftBy (a .each) (a .q .now) (a .ends .0) (recordsHere s (l .i))) (leftBy (a .each) (a .q .now) (a .ends .0) (recordHere s (l .i) ∷ []))),
       ),
     )
 

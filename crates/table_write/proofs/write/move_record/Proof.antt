@@ -27,7 +27,7 @@ returns c =
     let c₀ = c₁ .before .before .before .before in
     let a = c₀ .before .before .before .args in
     let s = a .table .now in
-    stored s (part s (a .from) 28) (bytes4 (a .marks)) (a .to) 28 (c₀ .move-words .ensures) (c₁ .put-u32 .ensures)
+    stored s (part s (a .from) 28) (bytes4 (a .marks .0)) (a .to) 28 (c₀ .move-words .ensures) (c₁ .put-u32 .ensures)
     (length-take-le 28 (drop (a .from) s) (rw length-drop (omega arith))) (omega arith)
 
 pub move-record-spec : {M : Type 1} → statement M

@@ -28,7 +28,7 @@ returns c =
     let c₀ = c₁ .before .before .before .before in
     let a = c₀ .before .before .before .before .args in
     let q = a .request .now in
-    stored (a .table .now) q (bytes4 (a .marks)) (a .at) 28
+    stored (a .table .now) q (bytes4 (a .marks .0)) (a .at) 28
     (c₀ .copy-words .ensures ∙ ap (over (a .table .now) (a .at) 28) (take-all 28 q (omega arith)))
     (c₁ .put-u32 .ensures) (omega arith) (omega arith)
 

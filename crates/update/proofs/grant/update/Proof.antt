@@ -1,96 +1,79 @@
 -- `crate::grant::update` meets its contract.
 -- Assumes nothing.
 use native.Mathlib.Omega.{arith}
+use mathlib.Core.Path.{_≡_, ap, _∙_}
+use lib.Dec.{leb}
+use lib.ListN.{length}
 use Rattle.sums.specs.Code.{sumsOf}
+use Rattle.format.specs.Layout.{capacity}
+use Rattle.format.specs.Block.{blocks}
+use Rattle.format.specs.Place.{recordsHere}
 use Rattle.table_write.proofs.SliceBytes.{slice-bytes}
+use Rattle.clearing.specs.Cleared.{afterBy}
+use Rattle.update.specs.Updating.{Judged}
 use Rattle.update.proofs.Standing.{Standing, standing}
-use Rattle.update.proofs.Updates.{ends-few, held-few, no-room, room-fits, granted-is}
+use Rattle.update.proofs.Updates.{held-few, no-room, room-fits, granted-is}
 use borrow.Author.Needs.{needs}
 use Rattle.update.proofs.grant.update.Statement.{statement}
 use Rattle.update.proofs.grant.update.Tie as tie
 
-stand : (c : tie.After-slice-known) → let a = c .before .before .before .args in Standing (a .policy .now) (sumsOf (a .stamp)) (a .table .now) (a .n)
-stand c = let s = c .before .before .before in standing (slice-bytes (s .args .table .now) (c .slice-known .given)) (s .pre .1 .0)
-
-ending-requires : tie.Need-ending-requires
-ending-requires c κs = search needs
-
-sub-gives : tie.Need-sub-gives
-sub-gives c =
-    let k = c .before in
-    let s = k .before .before .before in
-    omega (arith, ends-few (s .pre .0) (stand k) (s .pre .1 .1) (c .ending .ensures))
-
-masks-requires : tie.Need-masks-requires
-masks-requires c κs = let s = c .before .before .before .before in (s .pre .0 .accepted, s .pre .0 .rules-are)
+capacity-requires : tie.Need-capacity-requires
+capacity-requires c κs = c .before .before .pre .1 .0 .0 .most
 
 has-room-requires : tie.Need-has-room-requires
 has-room-requires c κs =
-    let k = c .before .before .before in
-    let st = stand k in
-    (k .before .before .before .pre .0 .sized, (st .holds, st .marked))
+    let o = c .before in
+    let s = o .before .before .before in
+    ((s .pre .0, omega (arith, o .capacity .ensures, s .pre .1 .0 .0 .few)), s .pre .1 .0)
+
+-- there is room, by the table's own capacity
+room-is : (h : tie.After-has-room) → let a = h .before .before .before .before .before .args in
+    h .has-room .result
+    ≡ leb (length (afterBy (a .each) (a .q .now) (a .effect .ends .0) (a .effect .gives .0) (recordsHere (a .table .now) (a .n)))) (capacity (blocks (a .table .now)))
+room-is h = h .has-room .ensures ∙ ap (leb _) (h .before .before .capacity .ensures)
 
 same-length : tie.Need-same-length
 same-length c = search needs
 
 returns : tie.Need-returns
-returns c =
+returns c policy j =
     let h = c .before in
-    let x = h .before .before in
-    let e = x .before in
-    let k = e .before in
-    let s = k .before .before .before in
-    no-room (s .pre .0) (stand k) (s .pre .1 .1) (e .ending .ensures) (x .masks .ensures) (h .has-room .ensures) (c .if1 .taken)
+    let k = h .before .before .before in
+    let bytes = slice-bytes (k .before .before .args .table .now) (k .slice-known .given) in
+    no-room j (standing bytes (j .accepted-table) (j .stamp-is) (j .held-are)) (room-is h) (c .if1 .taken)
 
 write-after-requires : tie.Need-write-after-requires
 write-after-requires c κs =
-    let d = c .before in
-    let h = d .before in
-    let x = h .before .before in
-    let e = x .before in
-    let k = e .before in
-    let s = k .before .before .before in
-    let st = stand k in (
-      s .pre .0 .sized,
-      (
-        (st .holds, st .marked),
-        (st .image, room-fits (s .pre .0) st (s .pre .1 .1) (e .ending .ensures) (x .masks .ensures) (h .has-room .ensures) (d .if1 .left)),
-      ),
-    )
+    let z = c .before in
+    let h = z .before in
+    let s = h .before .before .before .before .before in
+    (s .pre .0, (s .pre .1 .0, (s .pre .1 .1, room-fits _ _ (room-is h) (z .if1 .left))))
 
 granted-requires : tie.Need-granted-requires
 granted-requires c κs =
     let w = c .before .before in
-    let h = w .before .before .before in
-    let x = h .before .before in
-    let e = x .before in
-    let k = e .before in
-    let s = k .before .before .before in
-    let st = stand k in
-    (omega (arith, st .holds), held-few (s .pre .0) st (s .pre .1 .1) (e .ending .ensures) (x .masks .ensures) (w .write-after .ensures .1))
+    let s = w .before .before .before .before .before .before .before .before in
+    let a = s .args in
+    (omega (arith, s .pre .1 .0 .0 .most, s .pre .1 .0 .0 .few), held-few (a .each) (a .q .now) (a .effect .ends .0) (a .effect .gives .0) (a .table .now) (a .n) (w .write-after .ensures .1))
 
 same-length-2 : tie.Need-same-length-2
 same-length-2 c = search needs
 
 returns-2 : tie.Need-returns-2
-returns-2 c =
+returns-2 c policy j =
     let w = c .before .before .before in
-    let d = w .before .before in
-    let h = d .before in
-    let x = h .before .before in
-    let e = x .before in
-    let k = e .before in
-    let s = k .before .before .before in
-    granted-is (s .pre .0) (stand k) (s .pre .1 .1) (e .ending .ensures) (x .masks .ensures) (h .has-room .ensures) (d .if1 .left) (s .pre .1 .0 .stamp-is)
+    let z = w .before .before in
+    let h = z .before in
+    let k = h .before .before .before in
+    let bytes = slice-bytes (k .before .before .args .table .now) (k .slice-known .given) in
+    granted-is j (standing bytes (j .accepted-table) (j .stamp-is) (j .held-are)) (room-is h) (z .if1 .left)
     (w .write-after .ensures .0) (w .write-after .ensures .1) (c .granted .ensures)
 
 pub update-spec : {M : Type 1} → statement M
 update-spec =
     tie.close
     (tie.spec
-    ending-requires
-    sub-gives
-    masks-requires
+    capacity-requires
     has-room-requires
     same-length
     returns

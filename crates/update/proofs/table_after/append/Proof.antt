@@ -22,7 +22,7 @@ returns : tie.Need-returns
 returns c =
     let m = c .before .before in
     let a = m .before .before .before .before .before .args in
-    m .put-record .ensures ∙ ap {B = List ℕ} (λ at. over (a .table .now) at 32 (a .q .now ++ bytes4 (a .marks))) (m .before .record-place .ensures)
+    m .put-record .ensures ∙ ap {B = List ℕ} (λ at. over (a .table .now) at 32 (a .q .now ++ bytes4 (a .gives .0))) (m .before .record-place .ensures)
 
 pub append-spec : {M : Type 1} → statement M
 append-spec = tie.close (tie.spec record-place-requires put-record-requires same-length returns)

@@ -1,141 +1,158 @@
 -- `crate::table_after::write_after` meets its contract: outside the blocks that are written the table is an image still.
 -- Assumes nothing.
-use Prim.Native.Nat.{_+_, _*_, _<_}
+use Prim.Native.Nat.{ℕ, _+_, _/_, _<_, _≤_}
 use native.Mathlib.Omega.{arith}
-use mathlib.Core.Path.{_≡_, sym, ap, _∙_}
-use borrow.Author.Tests.{eqb-true}
+use mathlib.Core.Path.{_≡_, sym, _∙_}
+use mathlib.Core.Bool.{_||_}
 use lib.Dec.{eqb}
+use mir.Syntax.{w64}
+use mir.Val.{Fits}
+use borrow.Author.Tests.{eqb-true, eqb-false}
 use lib.ListN.{length}
 use Rattle.sums.specs.Code.{sumsOf}
-use Rattle.word_laws.proofs.Tests.{both-first, both-second}
+use Rattle.format.specs.Layout.{capacity}
 use Rattle.format.specs.Block.{blocks}
-use Rattle.format.specs.Table.{tableImage}
 use Rattle.format.specs.Place.{recordsHere}
+use Rattle.table_write.specs.Writing.{hasBlock, noBlock, ImageBut, KeptBut}
+use Rattle.table_write.specs.declared.blocks.BlockSet.{BlockSet}
 use Rattle.table_write.proofs.SliceBytes.{slice-bytes}
+use Rattle.table_write.proofs.TableWritten.{image-but, but-kept, kept-kept}
 use Rattle.clearing.specs.Cleared.{afterBy}
-use Rattle.clearing.proofs.Left.{length-here}
-use Rattle.clearing.proofs.After.{stay-none}
-use Rattle.update.proofs.AfterLaws.{length-none, length-one, room-none, room-one, outside-none, outside-one, image-none, image-one}
+use Rattle.fields.specs.Code.{HasRoom}
+use Rattle.update.proofs.AfterLaws.{same-room, length-none, length-one, image-none, image-one, records-put, kept-put}
 use borrow.Author.Needs.{needs}
 use Rattle.update.proofs.table_after.write_after.Statement.{statement}
 use Rattle.update.proofs.table_after.write_after.Tie as tie
 
-first-changed-requires : tie.Need-first-changed-requires
-first-changed-requires c κs = search needs
+remove-requires : tie.Need-remove-requires
+remove-requires c κs = search needs
+
+is-empty-requires : tie.Need-is-empty-requires
+is-empty-requires c κs = search needs
+
+-- the table was an image
+was-image : (m : tie.After-remove) → let a = m .before .before .before .before .args in ImageBut (sumsOf (a .stamp)) (a .table .now) (a .n) noBlock
+was-image m =
+    let k = m .before .before in
+    let s = k .before .before in
+    image-but (sumsOf (s .args .stamp)) (s .args .table .now) (s .args .n) noBlock (slice-bytes (s .args .table .now) (k .slice-known .given)) (s .pre .1 .0 .0) (s .pre .1 .1 .0)
+
+-- the request has no mark
+none : (z : tie.Then1) → z .before .before .before .before .before .before .before .before .args .effect .gives .0 ≡ 0
+none z = eqb-true _ 0 (sym (z .before .is-empty .ensures) ∙ z .if1 .taken)
+
+held-are : (z : tie.Then1) → let m = z .before .before .before .before in let a = m .before .before .before .before .args in
+    m .remove .result .held ≡ length (afterBy (a .each) (a .q .now) (a .effect .ends .0) (a .effect .gives .0) (recordsHere (a .table .now) (a .n)))
+held-are z =
+    let m = z .before .before .before .before in
+    let a = m .before .before .before .before .args in
+    length-none (a .each) (a .q .now) (a .effect .ends .0) (a .table .now) _ (a .n) (m .remove .result .held) (m .remove .ensures .0) (a .effect .gives .0) (none z)
+
+seal-blocks-requires : tie.Need-seal-blocks-requires
+seal-blocks-requires c κs =
+    let z = c .before in
+    let m = z .before .before .before .before in
+    let s = m .before .before .before .before in
+    let d = m .remove .ensures .1 in
+    let h = same-room {t = m .remove .last .1 .1 .1 .0} {m = m .remove .result .held} (d .long) (s .pre .1 .0 .0) (omega (arith, held-are z, s .pre .1 .1 .1)) in
+    ((h .whole, h .most), but-kept d (was-image m))
 
 same-length : tie.Need-same-length
 same-length c = search needs
 
 returns : tie.Need-returns
 returns c =
-    let f = c .before in
-    let s = f .before .before .before .before in
-    let a = s .args in
-    let first = f .first-changed .result in
-    let at = eqb-true first (a .n) (both-first (eqb first (a .n)) (eqb (a .gives) 0) (c .if1 .taken)) in
-    let z = eqb-true (a .gives) 0 (both-second (eqb first (a .n)) (eqb (a .gives) 0) (c .if1 .taken)) in
-    let e = stay-none (a .each) (a .q .now) (a .ends) (a .gives) (a .table .now) (a .n) (rw at at (f .first-changed .ensures .1)) z in
-    (s .pre .1 .1 .0 ∙ ap (tableImage (sumsOf (a .stamp)) (blocks (a .table .now))) (sym e), sym (ap length e ∙ length-here (a .table .now) (a .n)))
-
-compact-requires : tie.Need-compact-requires
-compact-requires c κs = search needs
-
-seal-changed-requires : tie.Need-seal-changed-requires
-seal-changed-requires c κs =
-    let m = c .before .before .before .before in
-    let f = m .before .before .before in
-    let k = f .before .before in
-    let s = k .before .before in
-    let a = s .args in
-    let d = m .compact .ensures in
-    let le = f .first-changed .ensures .0 in
-    let bytes = slice-bytes (a .table .now) (k .slice-known .given) in
-    let h = room-none (a .each) (a .q .now) (a .ends) d (sumsOf (a .stamp)) bytes (s .pre .1 .0 .0) (s .pre .1 .1 .0) le in (
-      (h .long, h .few),
-      (
-        (le, h .fit, omega (arith, d .few, h .fit)),
-        outside-none (a .each) (a .q .now) (a .ends) d (sumsOf (a .stamp)) bytes (s .pre .1 .0 .0) (s .pre .1 .1 .0) le,
-      ),
+    let e = c .before .before in
+    let z = e .before .before in
+    let m = z .before .before .before .before in
+    let a = m .before .before .before .before .args in (
+      image-none (a .each) (a .q .now) (a .effect .ends .0) (a .table .now) _ (a .n) (m .remove .result .held) (m .remove .ensures .0)
+          (sumsOf (a .stamp)) (a .effect .gives .0) (m .remove .ensures .1 .long) (none z) (e .seal-blocks .ensures),
+      held-are z,
     )
+
+-- the request has a mark, and there is a place for it
+some : (z : tie.Else1) → z .before .before .before .before .before .before .before .before .args .effect .gives .0 ≡ 0 → ⊥
+some z = eqb-false _ 0 (sym (z .before .is-empty .ensures) ∙ z .if1 .left)
+
+one-more : (z : tie.Else1) → let m = z .before .before .before .before in let a = m .before .before .before .before .args in
+    m .remove .result .held + 1 ≡ length (afterBy (a .each) (a .q .now) (a .effect .ends .0) (a .effect .gives .0) (recordsHere (a .table .now) (a .n)))
+one-more z =
+    let m = z .before .before .before .before in
+    let a = m .before .before .before .before .args in
+    length-one (a .each) (a .q .now) (a .effect .ends .0) (a .table .now) _ (a .n) (m .remove .result .held) (m .remove .ensures .0) (a .effect .gives .0) (some z)
+
+inside : (z : tie.Else1) → let m = z .before .before .before .before in
+    m .remove .result .held + 1 ≤ capacity (blocks (m .before .before .before .before .args .table .now))
+inside z = let s = z .before .before .before .before .before .before .before .before in omega (arith, one-more z, s .pre .1 .1 .1)
+
+left-room : (z : tie.Else1) → let m = z .before .before .before .before in HasRoom (m .remove .last .1 .1 .1 .0) (m .remove .result .held)
+left-room z =
+    let m = z .before .before .before .before in
+    let s = m .before .before .before .before in
+    same-room {m = m .remove .result .held} (m .remove .ensures .1 .long) (s .pre .1 .0 .0) (omega (arith, inside z))
+
+append-requires : tie.Need-append-requires
+append-requires c κs =
+    let z = c .before in
+    let m = z .before .before .before .before in
+    let s = m .before .before .before .before in
+    ((left-room z, omega (arith, inside z, m .remove .ensures .1 .long)), s .pre .0)
+
+most : (z : tie.Else1) → blocks (z .before .before .before .before .before .before .before .before .args .table .now) ≤ 128
+most z = z .before .before .before .before .before .before .before .before .pre .1 .0 .0 .most
+
+fits : (z : tie.Else1) → Fits w64 (z .before .before .before .before .remove .result .held + 1)
+fits z = record { fits = omega (arith, inside z, most z) }
+
+-- the request is put behind the records that are left
+kept-one : (p : tie.After-append) (set : BlockSet) → let m = p .before .before .before .before .before .before in
+    ((k : ℕ) → hasBlock set k ≡ eqb k (m .remove .result .held / 15) || hasBlock (m .remove .result .changed) k)
+    → KeptBut (m .remove .last .1 .1 .1 .0) (m .remove .result .held) (m .remove .result .changed) (p .append .last .0) (m .remove .result .held + 1) set
+kept-one p set grown =
+    let z = p .before .before in
+    let m = z .before .before .before .before in
+    let s = m .before .before .before .before in
+    kept-put (s .args .q .now) (s .args .effect .gives .0) (left-room z) (omega (arith, inside z, m .remove .ensures .1 .long)) (s .pre .0) (p .append .ensures)
+    (m .remove .result .changed) set grown
+
+add-seal-blocks : tie.Need-add-seal-blocks
+add-seal-blocks c = fits (c .before .before .before .before .before .before)
+
+with-requires : tie.Need-with-requires
+with-requires c κs = let z = c .before .before .before .before .before .before .before in omega (arith, inside z, most z)
+
+seal-blocks-requires-2 : tie.Need-seal-blocks-requires-2
+seal-blocks-requires-2 c κs =
+    let p = c .before .before .before .before .before .before in
+    let z = p .before .before in
+    let m = z .before .before .before .before in
+    let s = m .before .before .before .before in
+    let d = kept-kept (m .remove .ensures .1) (kept-one p (c .with .result) (c .with .ensures)) in
+    let h = same-room {t = p .append .last .0} {m = m .remove .result .held + 1} (d .long) (s .pre .1 .0 .0) (inside z) in
+    ((h .whole, h .most), but-kept d (was-image m))
+
+add-result : tie.Need-add-result
+add-result c = fits (c .before .before .before .before .before .before .before .before .before .before .before .before)
 
 same-length-2 : tie.Need-same-length-2
 same-length-2 c = search needs
 
 returns-2 : tie.Need-returns-2
 returns-2 c =
-    let e = c .before .before in
-    let z = e .before .before in
-    let m = z .before .before .before in
-    let a = m .before .before .before .before .before .before .before .args in
-    let d = m .compact .ensures in (
-      image-none (a .each) (a .q .now) (a .ends) d (sumsOf (a .stamp)) (a .gives) (z .if2 .taken) (e .seal-changed .ensures),
-      length-none (a .each) (a .q .now) (a .ends) d (a .gives) (z .if2 .taken),
-    )
-
--- the records that are left, and the request behind them
-one-more : (z : tie.Else2) → let m = z .before .before .before in let a = m .before .before .before .before .before .before .before .args in
-    m .compact .result + 1 ≡ length (afterBy (a .each) (a .q .now) (a .ends) (a .gives) (recordsHere (a .table .now) (a .n)))
-one-more z =
-    let m = z .before .before .before in
-    let a = m .before .before .before .before .before .before .before .args in
-    length-one (a .each) (a .q .now) (a .ends) (m .compact .ensures) (a .gives) (z .if2 .left)
-
-inside : (z : tie.Else2) → let m = z .before .before .before in m .compact .result < 15 * blocks (m .before .before .before .before .before .before .before .args .table .now)
-inside z = omega (arith, one-more z, z .before .before .before .before .before .before .before .before .before .before .pre .1 .1 .1)
-
-append-requires : tie.Need-append-requires
-append-requires c κs =
-    let z = c .before in
-    let m = z .before .before .before in
-    let s = m .before .before .before .before .before .before .before in
-    let h = s .pre .1 .0 .0 in
-    let d = m .compact .ensures in
-    ((omega (arith, h .long, d .long), omega (arith, h .few, d .long)), (omega (arith, inside z, d .long), s .pre .0))
-
-add-seal-changed : tie.Need-add-seal-changed
-add-seal-changed c = search needs
-
-seal-changed-requires-2 : tie.Need-seal-changed-requires-2
-seal-changed-requires-2 c κs =
-    let n = c .before .before .before in
-    let z = n .before .before in
-    let m = z .before .before .before in
-    let f = m .before .before .before in
-    let k = f .before .before in
-    let s = k .before .before in
+    let e = c .before .before .before in
+    let w = e .before in
+    let p = w .before .before .before .before .before .before in
+    let z = p .before .before in
+    let m = z .before .before .before .before in
+    let s = m .before .before .before .before in
     let a = s .args in
-    let d = m .compact .ensures in
-    let le = f .first-changed .ensures .0 in
-    let bytes = slice-bytes (a .table .now) (k .slice-known .given) in
-    let h =
-    room-one (a .each) (a .q .now) (a .ends) d (sumsOf (a .stamp)) bytes (s .pre .1 .0 .0) (s .pre .1 .1 .0) le
-    (a .gives) (inside z) (s .pre .0) (n .append .ensures) in (
-      (h .long, h .few),
-      (
-        (le, h .fit, omega (arith, inside z, d .long, n .append .kept .0)),
-        outside-one (a .each) (a .q .now) (a .ends) d (sumsOf (a .stamp)) bytes (s .pre .1 .0 .0) (s .pre .1 .1 .0) le
-            (a .gives) (inside z) (s .pre .0) (n .append .ensures),
-      ),
-    )
-
-add-result : tie.Need-add-result
-add-result c = search needs
-
-same-length-3 : tie.Need-same-length-3
-same-length-3 c = search needs
-
-returns-3 : tie.Need-returns-3
-returns-3 c =
-    let e = c .before .before in
-    let n = e .before .before .before .before in
-    let z = n .before .before in
-    let m = z .before .before .before in
-    let f = m .before .before .before in
-    let k = f .before .before in
-    let s = k .before .before in
-    let a = s .args in (
-      image-one (a .each) (a .q .now) (a .ends) (m .compact .ensures) (sumsOf (a .stamp)) (slice-bytes (a .table .now) (k .slice-known .given)) (s .pre .1 .0 .0) (s .pre .1 .1 .0)
-          (f .first-changed .ensures .0) (a .gives) (inside z) (s .pre .0) (n .append .ensures) (z .if2 .left) (s .fits .gives .fits) (e .seal-changed2 .ensures),
+    let gives = a .effect .gives .0 in
+    let small : gives < 4294967296 = omega (arith, s .good) in (
+      image-one (a .each) (a .q .now) (a .effect .ends .0) (a .table .now) (m .remove .last .1 .1 .1 .0) (a .n) (m .remove .result .held) (m .remove .ensures .0)
+          (sumsOf (a .stamp)) gives (p .append .last .0) (kept-one p (w .with .result) (w .with .ensures) .long ∙ m .remove .ensures .1 .long)
+          (records-put (a .q .now) gives (left-room z) (omega (arith, inside z, m .remove .ensures .1 .long)) (s .pre .0) (p .append .ensures) small)
+          (some z) (e .seal-blocks2 .ensures),
       one-more z,
     )
 
@@ -143,16 +160,15 @@ pub write-after-spec : {M : Type 1} → statement M
 write-after-spec =
     tie.close
     (tie.spec
-    first-changed-requires
+    remove-requires
+    is-empty-requires
+    seal-blocks-requires
     same-length
     returns
-    compact-requires
-    seal-changed-requires
-    same-length-2
-    returns-2
     append-requires
-    add-seal-changed
-    seal-changed-requires-2
+    add-seal-blocks
+    with-requires
+    seal-blocks-requires-2
     add-result
-    same-length-3
-    returns-3)
+    same-length-2
+    returns-2)
