@@ -1,6 +1,9 @@
--- Worked examples of the formats: what fits a rule, what is a good request, rule, policy and table, and the number that a bad one gets. Each is
--- broken by one of this crate's must-fail edits. The edits alter these definitions or what they are made of, save two: refusalOf and faultOf (Code)
--- say what a value of the code stands for, which no example computes; the contracts of the checks, in the crates above, are stated with them.
+-- Worked examples of the formats: what fits a rule, what is a good request, rule, policy and table, and the number that a bad one gets. Each is broken by
+-- one of this crate's must-fail edits. Each definition is altered by an edit, or named in the text that one alters, save these:
+-- - refusalOf, faultOf (Code): what a value of the code stands for. No example computes with such a value; the contracts of the checks above use them;
+-- - some sizes and places of Layout, and capacity: tried one by one, an example breaks if any of them is one more (contextBytes: one less);
+-- - what only puts together definitions that edits do alter: accepting, sealed, checkPolicy, permissionsAt, levelAt, exclusionAt, isSet, marked,
+--   recordBytesAt, recordsOf, recordImage, blockImage, freshTable, and the records by their place (Place). Examples compute with each of them.
 -- Assumes nothing.
 use Prim.Native.Nat.{ℕ, _+_, _-_, _*_}
 use mathlib.Core.Path.{_≡_, refl}
@@ -111,18 +114,18 @@ pub rule-places :
 unfolding opened
 rule-places = refl
 
--- every block: kind, number, total; the number of entries, of records; the third entry (32-39). The request: user, roles, operation, target, and the second
+-- every block: kind, number, total; the number of entries, of records; the third entry (32-39). The request: user, roles, operation, target, and the fourth
 -- level of its context
 pub other-places :
     (let e = permissionAt places 2 in
     let c = contextOf places in
     (kind places ∷ number places ∷ total places ∷ entries places ∷ count places ∷ [])
     ∷ (e .role ∷ e .operation ∷ e .target ∷ e .pad ∷ [])
-    ∷ (user places ∷ activeRoles places ∷ operation places ∷ target places ∷ levelType c 1 ∷ levelValue c 1 ∷ [])
+    ∷ (user places ∷ activeRoles places ∷ operation places ∷ target places ∷ levelType c 3 ∷ levelValue c 3 ∷ [])
     ∷ [])
     ≡ (four 0 ∷ two 4 ∷ two 6 ∷ two 8 ∷ two 8 ∷ [])
     ∷ (two 32 ∷ two 34 ∷ two 36 ∷ two 38 ∷ [])
-    ∷ (four 0 ∷ four 4 ∷ two 8 ∷ two 10 ∷ two 16 ∷ two 18 ∷ [])
+    ∷ (four 0 ∷ four 4 ∷ two 8 ∷ two 10 ∷ two 24 ∷ two 26 ∷ [])
     ∷ []
 unfolding opened
 other-places = refl

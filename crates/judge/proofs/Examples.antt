@@ -1,5 +1,6 @@
 -- Worked examples of the judge: the tally, the verdict of steps 1 to 3, the new table of steps 4 and 5, and decide on bytes. Each is broken by one of this
--- crate's must-fail edits. No edit alters the sample session (Sample): it is the paper's data, and the fifteen lines are proved of it in crate register.
+-- crate's must-fail edits. No edit alters the sample session (Sample): it is the paper's data, and its fifteen lines are proved in crate register. Nor
+-- timesDone, permitted, isLast, recordOf, tableAfter: edits put something else in their place where they are used.
 -- Assumes nothing.
 use Prim.Native.Nat.{ℕ}
 use mathlib.Core.Path.{_≡_, refl}
