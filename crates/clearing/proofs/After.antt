@@ -1,12 +1,13 @@
 -- The records that a table holds after a grant, and their number.
 -- Assumes nothing.
 use Prim.Native.Nat.{ℕ, _+_, _≤_}
+use native.Mathlib.Numerals.{add-one}
 use native.Mathlib.Omega.{arith}
 use mathlib.Core.Path.{_≡_, sym, ap, _∙_}
 use mathlib.Core.Bool.{cond}
 use mathlib.Core.List.{List, [], _∷_, _++_, map, append-nil}
 use lib.ListN.{length, length-append, length-map}
-use lib.Dec.{eqb}
+use lib.Dec.{eqb, leb, ltb}
 use borrow.Author.Tests.{eq-eqb, ne-eqb}
 use Rattle.word_laws.proofs.Keep.{keep-split}
 use Rattle.format.specs.Request.{Request}
@@ -36,6 +37,11 @@ module _ (e : Each) (q : Request) (ends : ℕ) where
   pub after-count : (gives : ℕ) (rs : List Record) → (gives ≡ 0 → ⊥) → length (afterBy e q ends gives rs) ≡ length (leftBy e q ends rs) + 1
   after-count gives rs z =
       ap length (after-one gives rs z) ∙ length-append (leftBy e q ends rs) (record { request = q; marks = gives } ∷ [])
+
+  -- with k records left, the request has a place where k is below the room
+  pub counted-room : (gives : ℕ) (rs : List Record) → (gives ≡ 0 → ⊥) → (k room : ℕ) → k ≡ length (leftBy e q ends rs)
+      → ltb k room ≡ leb (length (afterBy e q ends gives rs)) room
+  counted-room gives rs z k room is = rw (after-count gives rs z, ← is, add-one k)
 
   pub after-few : (gives : ℕ) (rs : List Record) → length (afterBy e q ends gives rs) ≤ length rs + cond (eqb gives 0) 0 1
   unfolding afterBy

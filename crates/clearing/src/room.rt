@@ -27,7 +27,7 @@ fn stays(each: Each, ends: RuleSet, q: &[u8], table: &[u8], n: usize, i: usize) 
 }
 
 // How many of the n records keep a mark.
-pub fn kept(each: Each, ends: RuleSet, q: &[u8], table: &[u8], n: usize) -> usize
+fn kept(each: Each, ends: RuleSet, q: &[u8], table: &[u8], n: usize) -> usize
     requires { ⌜ length (now q) ≡ requestBytes ⌝ }
     requires { ⌜ HasRoom (now table) n ⌝ }
     ensures { λ r. ⌜ r ≡ length (leftBy each (now (q .entry)) (ends .0) (recordsHere (now (table .entry)) n)) ⌝ }

@@ -7,14 +7,14 @@ use mathlib.Core.Bool.{Bool, true, false, cond, not}
 use mathlib.Core.List.{List, [], _∷_}
 use lib.ListN.{length}
 use lib.Dec.{eqb, leb}
-use borrow.Author.Tests.{eqb-true, eqb-false, not-true, not-false, leb-true}
+use borrow.Author.Tests.{not-true, not-false, leb-true}
 use Rattle.words.specs.Sums.{Sums}
 use Rattle.word_laws.proofs.Every.{Every, every-both, every-weaken}
 use Rattle.format.specs.Answer.{Answer, grant, refuse, refusal, Outcome}
 use Rattle.format.specs.Layout.{capacity}
 use Rattle.format.specs.Block.{blocks}
-use Rattle.format.specs.Policy.{Policy, policyOf, ruleCount, stamp}
-use Rattle.format.specs.Table.{Record, goodRecord, recordsOf, tableImage}
+use Rattle.format.specs.Policy.{policyOf, ruleCount}
+use Rattle.format.specs.Table.{goodRecord, recordsOf, tableImage}
 use Rattle.format.specs.Place.{recordsHere}
 use Rattle.format_laws.proofs.RecordImage.{Whole}
 use Rattle.format_laws.proofs.AcceptedPolicy.{rules-most}

@@ -1,7 +1,6 @@
 -- `crate::room::has_room` meets its contract.
 -- Assumes nothing.
 use Prim.Native.Nat.{ℕ}
-use native.Mathlib.Numerals.{add-one}
 use native.Mathlib.Omega.{arith}
 use mathlib.Core.Path.{_≡_, sym, _∙_}
 use lib.ListN.{length}
@@ -9,7 +8,7 @@ use borrow.Author.Tests.{le-leb, lt-leb, eqb-true, eqb-false}
 use Rattle.format.specs.Place.{recordsHere}
 use Rattle.clearing.specs.Cleared.{leftBy, afterBy}
 use Rattle.clearing.proofs.Left.{length-here, left-all}
-use Rattle.clearing.proofs.After.{after-few, after-count, stay-length, recorded-none, recorded-one}
+use Rattle.clearing.proofs.After.{after-few, counted-room, stay-length, recorded-none, recorded-one}
 use borrow.Author.Needs.{needs}
 use Rattle.clearing.proofs.room.has_room.Statement.{statement}
 use Rattle.clearing.proofs.room.has_room.Tie as tie
@@ -83,7 +82,7 @@ returns-4 c =
     let e = g .before in
     let a = e .before .before .before .args in
     let some = eqb-false (a .effect .gives .0) 0 (sym (e .is-empty .ensures) ∙ g .if1 .left) in
-    rw (after-count (a .each) (a .q .now) (a .effect .ends .0) (a .effect .gives .0) (recordsHere (a .table .now) (a .n)) some, ← c .kept .ensures, add-one (c .kept .result))
+    counted-room (a .each) (a .q .now) (a .effect .ends .0) (a .effect .gives .0) (recordsHere (a .table .now) (a .n)) some (c .kept .result) (a .room) (c .kept .ensures)
 
 pub has-room-spec : {M : Type 1} → statement M
 has-room-spec = tie.close (tie.spec is-empty-requires returns returns-2 is-empty-requires-2 returns-3 kept-requires returns-4)

@@ -4,14 +4,12 @@ use native.Mathlib.Omega.{arith}
 use mathlib.Core.Path.{_≡_, ap, _∙_}
 use lib.Dec.{leb}
 use lib.ListN.{length}
-use Rattle.sums.specs.Code.{sumsOf}
 use Rattle.format.specs.Layout.{capacity}
 use Rattle.format.specs.Block.{blocks}
 use Rattle.format.specs.Place.{recordsHere}
 use Rattle.table_write.proofs.SliceBytes.{slice-bytes}
 use Rattle.clearing.specs.Cleared.{afterBy}
-use Rattle.update.specs.Updating.{Judged}
-use Rattle.update.proofs.Standing.{Standing, standing}
+use Rattle.update.proofs.Standing.{standing}
 use Rattle.update.proofs.Updates.{held-few, no-room, room-fits, granted-is}
 use borrow.Author.Needs.{needs}
 use Rattle.update.proofs.grant.update.Statement.{statement}

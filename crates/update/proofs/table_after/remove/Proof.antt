@@ -1,6 +1,5 @@
 -- `crate::table_after::remove` meets its contract.
 -- Assumes nothing.
-use native.Mathlib.Omega.{arith}
 use mathlib.Core.Path.{sym, ap, _∙_}
 use Rattle.judge.specs.NewTable.{sweep}
 use Rattle.clearing.specs.Cleared.{leftBy}
