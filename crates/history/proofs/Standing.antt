@@ -15,7 +15,7 @@ use Rattle.words.specs.Bytes.{part, bit}
 use Rattle.words.specs.Lists.{keep, anyOf, tab}
 use Rattle.word_laws.proofs.Bits.{bit-none, bit-bits, bit-beyond, bits-same}
 use Rattle.word_laws.proofs.BitLaws.{bit-and, bit-or, bit-without}
-use Rattle.word_laws.proofs.Every.{Every, every-all, every-map, every-tab, every-keep, every-getD, keep-same}
+use Rattle.word_laws.proofs.Every.{every-all, every-map, every-tab, every-keep, every-getD, keep-same}
 use Rattle.word_laws.proofs.Keep.{keep-keep, keep-map, map-map}
 use Rattle.word_laws.proofs.Lists.{map-tab}
 use Rattle.word_laws.proofs.Parts.{u16At-part}

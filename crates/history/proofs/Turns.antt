@@ -6,7 +6,7 @@ use native.Mathlib.Numerals.{add-one}
 use native.Mathlib.Omega.{arith}
 use mathlib.Core.Path.{_≡_, refl, sym, ap, ap₂, _∙_}
 use mathlib.Core.Bool.{Bool, true, false, cond, not, _&&_, _||_, false≢true}
-use mathlib.Core.List.{List, [], _∷_, _++_, append-nil, append-assoc, flatten, map}
+use mathlib.Core.List.{List, [], _∷_, _++_, append-nil, flatten, map}
 use borrow.Author.Tests.{eqb-true}
 use lib.Bits.{bitOr, or-lt, or-zero-l, or-zero-r}
 use lib.Pow.{pow-mono}

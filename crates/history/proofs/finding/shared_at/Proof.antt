@@ -4,7 +4,7 @@ use Prim.Native.Nat.{_-_}
 use native.Mathlib.Omega.{arith}
 use mathlib.Core.Path.{_≡_, sym, ap, ap₂, _∙_}
 use borrow.Author.Tests.{eqb-true}
-use lib.Bits.{bitAnd, and-zero-l}
+use lib.Bits.{bitAnd}
 use Rattle.format.specs.Place.{recordFrom}
 use Rattle.history.specs.Code.{sharedBy}
 use borrow.Author.Needs.{needs}

@@ -1,7 +1,7 @@
 -- `history::pasts::stands_in` meets its contract.
 -- Assumes nothing.
-use mathlib.Core.Path.{_≡_, sym, ap, ap₂, _∙_}
-use mathlib.Core.Bool.{not, _&&_}
+use mathlib.Core.Path.{sym, ap, _∙_}
+use mathlib.Core.Bool.{not}
 use Rattle.words.specs.Bytes.{bit}
 use Rattle.format.specs.Place.{recordFrom}
 use Rattle.history.proofs.Turns.{stands-unmarked, stands-marked}
