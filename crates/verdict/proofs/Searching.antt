@@ -31,16 +31,16 @@ failsAt b i qs e = unless (not (reached (exclusionAt b e) qs)) (refusal (exclusi
 
 -- ---- one rule, over what it counts
 
-module _ (policy : List ℕ) (rules : ℕ) (each : Each) (q : Request) (table found : List ℕ) (i : ℕ) where
-  abbrev pub counts : List Request
-  counts = pastBy each q i table found ++ (q ∷ [])
+abbrev pub counts : Each → Request → List ℕ → List ℕ → ℕ → List Request
+counts each q table found i = pastBy each q i table found ++ (q ∷ [])
 
-  pub silent : bit i rules ≡ false → ruleFails policy rules each q table found i ≡ none
+module _ (policy : List ℕ) (rules : ℕ) (each : Each) (q : Request) (table found : List ℕ) (i : ℕ) where
+  silent : bit i rules ≡ false → ruleFails policy rules each q table found i ≡ none
   unfolding ruleFails
   silent e = rw e
 
   heard : (b : List ℕ) (n : ℕ) → bit i rules ≡ true → b ≡ block policy i → n ≡ byteAt b exclusionsAt
-      → ruleFails policy rules each q table found i ≡ first (failsAt b i counts) 0 n
+      → ruleFails policy rules each q table found i ≡ first (failsAt b i (counts each q table found i)) 0 n
   unfolding ruleFails failsIn
   heard b n e f h = rw (e, h, f)
 
@@ -52,8 +52,8 @@ module _ (policy : List ℕ) (rules : ℕ) (each : Each) (q : Request) (table fo
     -- one that does: its exclusions are next
     pub rule-judges :
         (b : List ℕ) (n : ℕ) → bit i rules ≡ true → b ≡ block policy i → n ≡ byteAt b exclusionsAt
-        → left (ruleFails policy rules each q table found) (failsAt b i counts) i mostRules 0 n ≡ t
-    rule-judges b n e f k = row-enter (ruleFails policy rules each q table found) (failsAt b i counts) i mostRules n h l (heard b n e f k)
+        → left (ruleFails policy rules each q table found) (failsAt b i (counts each q table found i)) i mostRules 0 n ≡ t
+    rule-judges b n e f k = row-enter (ruleFails policy rules each q table found) (failsAt b i (counts each q table found i)) i mostRules n h l (heard b n e f k)
 
 -- ---- one exclusion
 

@@ -38,15 +38,12 @@ fails policy judging q table found = ruleFails policy (judging .rules .0) (judgi
 abbrev whole : List ℕ → Judging → Request → List ℕ → List ℕ → Option Refusal
 whole policy judging q table found = first (fails policy judging q table found) 0 mostRules
 
--- the block of the rule at hand, as the code lends it, and what the rule counts
+-- the block of the rule at hand, as the code lends it
 abbrev here : List ℕ → ℕ → List ℕ
 here policy i = take (512 * i + 512 - 512 * i) (drop (512 * i) policy)
 
-abbrev those : List ℕ → Judging → Request → List ℕ → List ℕ → ℕ → List Request
-those policy judging q table found i = counts policy (judging .rules .0) (judging .each) q table found i
-
 abbrev Inv-loop : tie.InvT-loop
-Inv-loop policy judging q table found past i at b end n e₀ e = (e ≤ n) × (left (fails policy judging q table found) (failsAt b i (those policy judging q table found i)) i mostRules e n ≡ whole policy judging q table found)
+Inv-loop policy judging q table found past i at b end n e₀ e = (e ≤ n) × (left (fails policy judging q table found) (failsAt b i (counts (judging .each) q table found i)) i mostRules e n ≡ whole policy judging q table found)
 
 abbrev μ-loop : tie.MeasureT-loop
 μ-loop policy judging q table found past i at b end n e₀ e = n - e
@@ -69,22 +66,18 @@ add-i c = search needs
 rules-less : tie.Need-rules-less Inv-loop μ-loop Inv-rules μ-rules
 rules-less c = search needs
 
--- the rule at hand, where it judges or does not
-module _ (c : tie.Then2 Inv-loop μ-loop Inv-rules μ-rules) where
-  skips :
-      let a = c .before .before .before .before .before .before .before .before .before .args in
-      let rules = c .before .before .before .rules in
-      first (fails (a .policy .now) (a .judging) (a .q .now) (a .table .now) (a .found .now)) (rules .i + 1) (mostRules - (rules .i + 1)) ≡ whole (a .policy .now) (a .judging) (a .q .now) (a .table .now) (a .found .now)
-  skips =
-      let a = c .before .before .before .before .before .before .before .before .before .args in
-      let rules = c .before .before .before .rules in
-      let has = c .before .has in
-      rule-silent (a .policy .now) (a .judging .rules .0) (a .judging .each) (a .q .now) (a .table .now) (a .found .now) (rules .i) (rules .inv .2) (omega arith)
-      (sym (has .ensures) ∙ not-true (has .result) (c .if2 .taken))
-
 rules-again : tie.Need-rules-again Inv-loop μ-loop Inv-rules μ-rules
-rules-again c = (omega arith, omega arith, skips c)
+rules-again c =
+    let a = c .before .before .before .before .before .before .before .before .before .args in
+    let rules = c .before .before .before .rules in
+    let has = c .before .has in (
+      omega arith,
+      omega arith,
+      rule-silent (a .policy .now) (a .judging .rules .0) (a .judging .each) (a .q .now) (a .table .now) (a .found .now) (rules .i) (rules .inv .2) (omega arith)
+          (sym (has .ensures) ∙ not-true (has .result) (c .if2 .taken)),
+    )
 
+-- a rule that judges is one of the policy's, so that its block stands in the image
 module _ (c : tie.Else2 Inv-loop μ-loop Inv-rules μ-rules) where
   judges : bit (c .before .before .before .rules .i) (c .before .before .before .before .before .before .before .before .before .args .judging .rules .0) ≡ true
   judges = let has = c .before .has in sym (has .ensures) ∙ not-false (has .result) (c .if2 .left)
@@ -166,7 +159,7 @@ module _ (c : tie.After-reaches Inv-loop μ-loop Inv-rules μ-rules) where
       let d = c .before .before .before .before .before .before .before .before .before .before .before .before in
       let a = d .before .before .before .before .before .before .before .before .before .args in
       let i = d .before .before .before .rules .i in
-      c .reaches .result ≡ reached (exclusionAt (here (a .policy .now) i) (c .before .before .before .before .loop .e)) (those (a .policy .now) (a .judging) (a .q .now) (a .table .now) (a .found .now) i)
+      c .reaches .result ≡ reached (exclusionAt (here (a .policy .now) i) (c .before .before .before .before .loop .e)) (counts (a .judging .each) (a .q .now) (a .table .now) (a .found .now) i)
   reached-is =
       let d = c .before .before .before .before .before .before .before .before .before .before .before .before in
       let a = d .before .before .before .before .before .before .before .before .before .args in
@@ -190,8 +183,8 @@ loop-again c =
     let l = c .before .before .before .before .before .loop in
     let taken = c .before .before .before .before .loop-test .taken in (
       omega arith,
-      row-more (fails (a .policy .now) (a .judging) (a .q .now) (a .table .now) (a .found .now)) (failsAt (here (a .policy .now) i) i (those (a .policy .now) (a .judging) (a .q .now) (a .table .now) (a .found .now) i)) i mostRules (l .e) (c .before .before .before .before .before .before .wide .result) (l .inv .1) taken
-          (exclusion-passes (a .policy .now) (here (a .policy .now) i) i (l .e) (those (a .policy .now) (a .judging) (a .q .now) (a .table .now) (a .found .now) i) (c .before .reaches .result) (reached-is (c .before)) (c .if3 .left)),
+      row-more (fails (a .policy .now) (a .judging) (a .q .now) (a .table .now) (a .found .now)) (failsAt (here (a .policy .now) i) i (counts (a .judging .each) (a .q .now) (a .table .now) (a .found .now) i)) i mostRules (l .e) (c .before .before .before .before .before .before .wide .result) (l .inv .1) taken
+          (exclusion-passes (a .policy .now) (here (a .policy .now) i) i (l .e) (counts (a .judging .each) (a .q .now) (a .table .now) (a .found .now) i) (c .before .reaches .result) (reached-is (c .before)) (c .if3 .left)),
     )
 
 add-i-2 : tie.Need-add-i-2 Inv-loop μ-loop Inv-rules μ-rules
@@ -209,7 +202,7 @@ rules-again-2 c =
     let l = c .before .loop in (
       omega arith,
       omega (arith, c .before .before .before .before .before .before .past-of .ensures .2, rules .inv .1),
-      row-done (fails (a .policy .now) (a .judging) (a .q .now) (a .table .now) (a .found .now)) (failsAt (here (a .policy .now) i) i (those (a .policy .now) (a .judging) (a .q .now) (a .table .now) (a .found .now) i)) i mostRules (l .e) (c .before .before .wide .result) (l .inv .1) (c .loop-test .left),
+      row-done (fails (a .policy .now) (a .judging) (a .q .now) (a .table .now) (a .found .now)) (failsAt (here (a .policy .now) i) i (counts (a .judging .each) (a .q .now) (a .table .now) (a .found .now) i)) i mostRules (l .e) (c .before .before .wide .result) (l .inv .1) (c .loop-test .left),
     )
 
 same-length : tie.Need-same-length Inv-loop μ-loop Inv-rules μ-rules
@@ -233,8 +226,8 @@ returns-2 c =
     let wide = c .before .before .before .before .before .before .wide in
     let taken = c .before .before .before .before .loop-test .taken in
     let b-is = part-to (a .policy .now) (512 * i) 512 in (
-      row-hit (fails (a .policy .now) (a .judging) (a .q .now) (a .table .now) (a .found .now)) (failsAt (here (a .policy .now) i) i (those (a .policy .now) (a .judging) (a .q .now) (a .table .now) (a .found .now) i)) i mostRules (l .e) (wide .result) (l .inv .1) taken
-          (exclusion-fails (a .policy .now) (here (a .policy .now) i) i (l .e) (those (a .policy .now) (a .judging) (a .q .now) (a .table .now) (a .found .now) i) (c .before .reaches .result) (reached-is (c .before)) (c .if3 .taken) b-is),
+      row-hit (fails (a .policy .now) (a .judging) (a .q .now) (a .table .now) (a .found .now)) (failsAt (here (a .policy .now) i) i (counts (a .judging .each) (a .q .now) (a .table .now) (a .found .now) i)) i mostRules (l .e) (wide .result) (l .inv .1) taken
+          (exclusion-fails (a .policy .now) (here (a .policy .now) i) i (l .e) (counts (a .judging .each) (a .q .now) (a .table .now) (a .found .now) i) (c .before .reaches .result) (reached-is (c .before)) (c .if3 .taken) b-is),
       (omega arith, exclusion-ready (a .policy .now) (s .pre .0 .accepted) _ i (l .e) (wide .result) (below d) b-is (wide .ensures .0) taken .1, inside d),
     )
 
