@@ -46,8 +46,8 @@ noBlock = record { low = 0; high = 0 }
 pub record ImageBut (t : Sums) (s : List ℕ) (n : ℕ) (set : BlockSet) : Type 0 where
   pub outside : (k : ℕ) → k < blocks s → hasBlock set k ≡ false → block s k ≡ imageBlock t (blocks s) (recordsHere s n) k
 
--- table s of n records has become s′ of n′, and the set of its blocks that have changed has become set′. "Write .. only blocks whose records
--- differ": a block outside set′ has its bytes and as many records as before, and was outside the set before.
+-- table s of n records has become s′ of n′, and the set of its blocks that have changed has become set′: a block outside set′ has its bytes and as
+-- many records as before, and was outside the set before. So only the blocks of set′ need writing.
 pub record KeptBut (s : List ℕ) (n : ℕ) (set : BlockSet) (s′ : List ℕ) (n′ : ℕ) (set′ : BlockSet) : Type 0 where
   pub long : length s′ ≡ length s
   pub before : (k : ℕ) → hasBlock set′ k ≡ false → hasBlock set k ≡ false

@@ -58,14 +58,21 @@ add-i c = search needs
 loop-less : tie.Need-loop-less Inv-loop μ-loop
 loop-less c = search needs
 
+-- from a record's place back to the loop's head, and from there to the start
+abbrev turn : tie.After-record-place Inv-loop μ-loop → tie.At-loop Inv-loop μ-loop
+turn p = p .before .before
+
+abbrev began : tie.At-loop Inv-loop μ-loop → tie.Start Inv-loop μ-loop
+began h = h .before .before .before .before .before .before
+
 -- the marks that are left of record i
-left-are : (k : tie.After-cleared-marks Inv-loop μ-loop) → let l = k .before .before .before .before .loop in
-    let a = k .before .before .before .before .before .before .before .before .before .before .args in
+left-are : (k : tie.After-cleared-marks Inv-loop μ-loop) → let l = turn (k .before .before) .loop in
+    let a = began (turn (k .before .before)) .args in
     k .cleared-marks .result .0 ≡ clearedBy (a .each) (a .q .now) (a .ends .0) (recordHere (l .table) (l .i)) .marks
 left-are k =
     let p = k .before .before in
-    let l = p .before .before .loop in
-    let a = p .before .before .before .before .before .before .before .before .args in
+    let l = turn p .loop in
+    let a = began (turn p) .args in
     k .cleared-marks .ensures ∙ ap (λ at. clearedBy (a .each) (a .q .now) (a .ends .0) (recordFrom (l .table) at) .marks) (p .record-place .ensures)
 
 loop-again : tie.Need-loop-again Inv-loop μ-loop
@@ -73,8 +80,8 @@ loop-again c =
     let m = c .before .before .before in
     let k = m .before .before in
     let p = k .before .before in
-    let l = p .before .before .loop in
-    let a = p .before .before .before .before .before .before .before .before .args in (
+    let l = turn p .loop in
+    let a = began (turn p) .args in (
       omega arith,
       l .inv .1,
       clear-skip (a .each) (a .q .now) (a .ends .0) (l .inv .2)
@@ -98,8 +105,8 @@ loop-again-2 c =
     let d = c .before .before .before in
     let k = d .before .before .before .before .before .before .before in
     let p = k .before .before in
-    let l = p .before .before .loop in
-    let s = p .before .before .before .before .before .before .before .before in
+    let l = turn p .loop in
+    let s = began (turn p) in
     let a = s .args in
     let h = s .pre .1 in
     let t = l .table in
@@ -118,7 +125,7 @@ same-length c = c .before .loop .inv .2 .long
 returns-2 : tie.Need-returns-2 Inv-loop μ-loop
 returns-2 c =
     let l = c .before .loop in
-    let a = c .before .before .before .before .before .before .before .args in
+    let a = began (c .before) .args in
     let e : l .i ≡ a .n = omega arith in
     clear-done (a .each) (a .q .now) (a .ends .0) (rw e at (l .inv .2))
 

@@ -56,12 +56,19 @@ add-i c = search needs
 loop-less : tie.Need-loop-less Inv-loop μ-loop
 loop-less c = search needs
 
+-- from a record's place back to the loop's head, and from there to the start
+abbrev turn : tie.After-record-place Inv-loop μ-loop → tie.At-loop Inv-loop μ-loop
+turn p = p .before .before
+
+abbrev began : tie.At-loop Inv-loop μ-loop → tie.Start Inv-loop μ-loop
+began h = h .before .before .before .before .before
+
 -- the marks of record i
-marks-are : (m : tie.After-marks Inv-loop μ-loop) → let l = m .before .before .before .before .loop in
+marks-are : (m : tie.After-marks Inv-loop μ-loop) → let l = turn (m .before .before) .loop in
     m .marks .result .0 ≡ recordHere (l .table) (l .i) .marks
 marks-are m =
     let p = m .before .before in
-    let l = p .before .before .loop in
+    let l = turn p .loop in
     m .marks .ensures ∙ ap (λ at. recordFrom (l .table) at .marks) (p .record-place .ensures)
 
 loop-again : tie.Need-loop-again Inv-loop μ-loop
@@ -69,7 +76,7 @@ loop-again c =
     let e = c .before in
     let m = e .before in
     let p = m .before .before in
-    let l = p .before .before .loop in (
+    let l = turn p .loop in (
       omega arith,
       l .inv .1,
       up-drop (l .inv .2) (sym (marks-are m) ∙ eqb-true (m .marks .result .0) 0 (sym (e .is-empty .ensures) ∙ c .if2 .taken)),
@@ -97,8 +104,8 @@ loop-again-2 c =
     let e = g .before in
     let m = e .before in
     let p = m .before .before in
-    let l = p .before .before .loop in
-    let s = p .before .before .before .before .before .before .before in
+    let l = turn p .loop in
+    let s = began (turn p) in
     let h = s .pre in
     let t = l .table in
     let marks = m .marks .result .0 in (

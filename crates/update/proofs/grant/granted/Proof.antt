@@ -47,7 +47,7 @@ cast-t12 : tie.Need-cast-t12
 cast-t12 c = omega (arith, one c)
 
 returns-2 : tie.Need-returns-2
-returns-2 c = rw (one c)
+returns-2 c = let a = c .before .before .args in rw (one c) (ap {B = Answer} (λ x. grant 1 x (a .held)) (omega arith))
 
 pub granted-spec : {M : Type 1} → statement M
 granted-spec =
