@@ -5,7 +5,8 @@ use mathlib.Core.Option.{none}
 use native.Mathlib.Omega.{arith}
 use borrow.Author.Needs.{needs}
 use Rattle.format.specs.Code.{faultOf}
-use Rattle.engine.proofs.Checked.{policy-refused, policy-accepted, policy-blocked}
+use Rattle.policy_check.proofs.Lengths.{policy-blocked}
+use Rattle.engine.proofs.Checked.{policy-refused, policy-accepted}
 use Rattle.engine.proofs.checks.check_policy.Statement.{statement}
 use Rattle.engine.proofs.checks.check_policy.Tie as tie
 

@@ -3,7 +3,7 @@
 use mathlib.Core.Path.{_≡_, sym, ap, _∙_}
 use native.Mathlib.Omega.{arith}
 use Rattle.format.specs.Code.{faultOf}
-use Rattle.engine.proofs.Checked.{policy-blocked, table-policy}
+use Rattle.engine.proofs.Checked.{table-policy}
 use borrow.Author.Needs.{needs}
 use Rattle.engine.proofs.checks.check_table.Statement.{statement}
 use Rattle.engine.proofs.checks.check_table.Tie as tie
@@ -17,14 +17,11 @@ enum-known-fault c = search needs
 enum-told : tie.Need-enum-told
 enum-told c = search needs
 
-rule-count-requires : tie.Need-rule-count-requires
-rule-count-requires c κs = omega (arith, policy-blocked _ (sym (c .before .before .policy-fault .ensures) ∙ ap faultOf (c .enum-told .given .1)) .2)
-
-stamp-of-requires : tie.Need-stamp-of-requires
-stamp-of-requires c κs = sym (c .before .before .before .policy-fault .ensures) ∙ ap faultOf (c .before .enum-told .given .1)
+rules-and-stamp-requires : tie.Need-rules-and-stamp-requires
+rules-and-stamp-requires c κs = sym (c .before .before .policy-fault .ensures) ∙ ap faultOf (c .enum-told .given .1)
 
 table-reply-requires : tie.Need-table-reply-requires
-table-reply-requires c κs = (sym (c .before .before .before .before .policy-fault .ensures) ∙ ap faultOf (c .before .before .enum-told .given .1), (c .before .rule-count .ensures, c .stamp-of .ensures))
+table-reply-requires c κs = c .rules-and-stamp .ensures
 
 returns : tie.Need-returns
 returns c = table-policy _ _ _ (sym (c .before .before .before .policy-fault .ensures) ∙ ap faultOf (c .before .fault .given .1))
@@ -39,8 +36,7 @@ check-table-spec =
     policy-fault-requires
     enum-known-fault
     enum-told
-    rule-count-requires
-    stamp-of-requires
+    rules-and-stamp-requires
     table-reply-requires
     returns
     returns-2)

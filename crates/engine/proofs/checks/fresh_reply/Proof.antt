@@ -4,7 +4,8 @@ use mathlib.Core.Path.{_≡_, sym, ap, _∙_}
 use native.Mathlib.Omega.{arith}
 use borrow.Author.Tests.{not-true, not-false}
 use Rattle.format.specs.Code.{faultOf}
-use Rattle.engine.proofs.Checked.{fresh-length, fresh-written, good-blocked}
+use Rattle.policy_check.proofs.Lengths.{good-blocked}
+use Rattle.engine.proofs.Checked.{fresh-length, fresh-written}
 use borrow.Author.Needs.{needs}
 use Rattle.engine.proofs.checks.fresh_reply.Statement.{statement}
 use Rattle.engine.proofs.checks.fresh_reply.Tie as tie
@@ -16,7 +17,7 @@ same-length : tie.Need-same-length
 same-length c = search needs
 
 returns : tie.Need-returns
-returns c = fresh-length _ _ (c .before .before .before .before .before .pre .0) (sym (c .before .good-length .ensures) ∙ not-true _ (c .if1 .taken))
+returns c = fresh-length _ _ (c .before .before .before .before .before .pre .accepted) (sym (c .before .good-length .ensures) ∙ not-true _ (c .if1 .taken))
 
 capacity-requires : tie.Need-capacity-requires
 capacity-requires c κs = omega (arith, good-blocked 128 _ (sym (c .before .good-length .ensures) ∙ not-false _ (c .if1 .left)) .2)
@@ -36,7 +37,7 @@ returns-2 : tie.Need-returns-2
 returns-2 c =
     let e = c .before .before .before .before .before in
     let start = e .before .before .before .before .before in
-    fresh-written _ _ _ _ _ (start .pre .0) (sym (e .before .good-length .ensures) ∙ not-false _ (e .if1 .left)) (c .before .before .before .before .capacity .ensures) (c .before .before .fresh .ensures) (start .pre .1)
+    fresh-written _ _ _ _ _ (start .pre .accepted) (sym (e .before .good-length .ensures) ∙ not-false _ (e .if1 .left)) (c .before .before .before .before .capacity .ensures) (c .before .before .fresh .ensures) (start .pre .stamp-is)
 
 pub fresh-reply-spec : {M : Type 1} → statement M
 fresh-reply-spec =

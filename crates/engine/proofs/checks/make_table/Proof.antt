@@ -17,11 +17,11 @@ enum-known-fault c = search needs
 enum-told : tie.Need-enum-told
 enum-told c = search needs
 
-stamp-of-requires : tie.Need-stamp-of-requires
-stamp-of-requires c κs = sym (c .before .before .policy-fault .ensures) ∙ ap faultOf (c .enum-told .given .1)
+rules-and-stamp-requires : tie.Need-rules-and-stamp-requires
+rules-and-stamp-requires c κs = sym (c .before .before .policy-fault .ensures) ∙ ap faultOf (c .enum-told .given .1)
 
 fresh-reply-requires : tie.Need-fresh-reply-requires
-fresh-reply-requires c κs = (sym (c .before .before .before .before .policy-fault .ensures) ∙ ap faultOf (c .before .before .enum-told .given .1), c .before .stamp-of .ensures)
+fresh-reply-requires c κs = c .before .rules-and-stamp .ensures
 
 returns : tie.Need-returns
 returns c = fresh-policy _ _ _ (sym (c .before .before .before .policy-fault .ensures) ∙ ap faultOf (c .before .fault .given .1))
@@ -39,7 +39,7 @@ make-table-spec =
     policy-fault-requires
     enum-known-fault
     enum-told
-    stamp-of-requires
+    rules-and-stamp-requires
     fresh-reply-requires
     returns
     same-length

@@ -21,18 +21,18 @@ enum-told c = search needs
 record-count-requires : tie.Need-record-count-requires
 record-count-requires c κs = accepted-small _ _ (sym (c .before .before .table-fault .ensures) ∙ ap faultOf (c .enum-told .given .1))
 
-cast-t9 : tie.Need-cast-t9
-cast-t9 c =
+cast-t8 : tie.Need-cast-t8
+cast-t8 c =
     let start = c .before .before .before .before in
     let passed = sym (c .before .before .before .table-fault .ensures) ∙ ap faultOf (c .before .enum-told .given .1) in
     omega (arith, c .record-count .ensures, records-few _ _ (start .shared-slice-known2 .given) passed)
 
 returns : tie.Need-returns
-returns c = table-refused _ _ _ (c .before .before .before .before .before .before .pre .0) (sym (c .before .before .before .table-fault .ensures) ∙ ap faultOf (c .before .fault .given .1))
+returns c = table-refused _ _ _ (c .before .before .before .before .before .before .pre .accepted) (sym (c .before .before .before .table-fault .ensures) ∙ ap faultOf (c .before .fault .given .1))
 
 returns-2 : tie.Need-returns-2
 returns-2 c =
-    table-accepted _ _ _ (c .before .before .before .before .before .before .pre .0)
+    table-accepted _ _ _ (c .before .before .before .before .before .before .pre .accepted)
     (sym (c .before .before .before .table-fault .ensures) ∙ ap faultOf (c .before .enum-told .given .1)) (c .record-count .ensures)
 
 pub table-reply-spec : {M : Type 1} → statement M
@@ -43,6 +43,6 @@ table-reply-spec =
     enum-known-fault
     enum-told
     record-count-requires
-    cast-t9
+    cast-t8
     returns
     returns-2)

@@ -3,7 +3,6 @@
 use mathlib.Core.Path.{_≡_, sym, ap, _∙_}
 use Rattle.format.specs.Code.{faultOf}
 use native.Mathlib.Omega.{arith}
-use Rattle.engine.proofs.Checked.{policy-blocked}
 use Rattle.engine.proofs.Decided.{by-policy}
 use borrow.Author.Needs.{needs}
 use Rattle.engine.proofs.deciding.decide.Statement.{statement}
@@ -18,15 +17,11 @@ enum-known-fault c = search needs
 enum-told : tie.Need-enum-told
 enum-told c = search needs
 
-rule-count-requires : tie.Need-rule-count-requires
-rule-count-requires c κs = omega (arith, policy-blocked _ (sym (c .before .before .policy-fault .ensures) ∙ ap faultOf (c .enum-told .given .1)) .2)
-
-stamp-of-requires : tie.Need-stamp-of-requires
-stamp-of-requires c κs = sym (c .before .before .before .policy-fault .ensures) ∙ ap faultOf (c .before .enum-told .given .1)
+rules-and-stamp-requires : tie.Need-rules-and-stamp-requires
+rules-and-stamp-requires c κs = sym (c .before .before .policy-fault .ensures) ∙ ap faultOf (c .enum-told .given .1)
 
 decide-under-requires : tie.Need-decide-under-requires
-decide-under-requires c κs =
-    (sym (c .before .before .before .before .before .policy-fault .ensures) ∙ ap faultOf (c .before .before .before .enum-told .given .1), c .before .before .rule-count .ensures, c .before .stamp-of .ensures)
+decide-under-requires c κs = c .before .rules-and-stamp .ensures
 
 returns : tie.Need-returns
 returns c = by-policy _ _ _ _ (sym (c .before .before .before .policy-fault .ensures) ∙ ap faultOf (c .before .fault .given .1))
@@ -44,8 +39,7 @@ decide-spec =
     policy-fault-requires
     enum-known-fault
     enum-told
-    rule-count-requires
-    stamp-of-requires
+    rules-and-stamp-requires
     decide-under-requires
     returns
     same-length

@@ -1,20 +1,24 @@
 -- `engine::deciding::decide_good` meets its contract.
 -- Assumes nothing.
 use mathlib.Core.Path.{_≡_, sym, ap, _∙_}
+use mathlib.Core.Option.{none}
+use borrow.Author.Needs.{needs}
 use Rattle.format.specs.Answer.{Answer}
 use Rattle.format.specs.Code.{faultOf}
+use Rattle.table_write.proofs.SliceBytes.{slice-bytes}
+use Rattle.update.proofs.Standing.{standing}
 use Rattle.engine.specs.Code.{outcome}
 use Rattle.engine.proofs.Decided.{by-verdict}
-use Rattle.engine.proofs.Judged.{request-length, has-room, verdict-is, judging-is, update-is}
-use borrow.Author.Needs.{needs}
+use Rattle.engine.proofs.Judged.{request-length, verdict-is, effect-is, update-is}
 use Rattle.engine.proofs.deciding.decide_good.Statement.{statement}
 use Rattle.engine.proofs.deciding.decide_good.Tie as tie
 
 verdict-of-requires : tie.Need-verdict-of-requires
 verdict-of-requires c κs =
-    let start = c .before .before .before .before in
-    let t = start .pre .1 .0 in
-    ((start .pre .0 .0, start .pre .0 .1), (request-length _ (start .pre .1 .1), has-room _ _ (t .0) _ (t .1) (c .before .before .slice-known .given)))
+    let pre = c .before .before .before .before .pre in
+    let table = pre .1 .0 in
+    let stands = standing (slice-bytes _ (c .before .before .slice-known .given)) (table .0) (pre .0 .stamp-is) (table .1) in
+    (pre .0, (request-length _ (pre .1 .1), stands .room))
 
 enum-known-fault : tie.Need-enum-known-fault
 enum-known-fault c = search needs
@@ -24,15 +28,11 @@ enum-told c = search needs
 
 update-requires : tie.Need-update-requires
 update-requires c κs =
-    let v = c .before .before .before in
-    let start = v .before .before .before .before .before in
-    let t = start .pre .1 .0 in (
-      record { accepted = start .pre .0 .0; rules-are = start .pre .0 .1; sized = request-length _ (start .pre .1 .1) },
-      (
-        record { accepted-table = t .0; stamp-is = start .pre .0 .2; held-are = t .1 },
-        judging-is _ _ (t .0) _ (t .1) _ _ _ (v .verdict-of .ensures) (ap faultOf (c .before .enum-told .given .1)),
-      ),
-    )
+    let bytes = c .before .before .before .before .before .before .slice-known in
+    let pre = c .before .before .before .before .before .before .before .before .pre in
+    let table = pre .1 .0 in
+    let stands = standing (slice-bytes _ (bytes .given)) (table .0) (pre .0 .stamp-is) (table .1) in
+    (request-length _ (pre .1 .1), ((stands .room, stands .marked), stands .image))
 
 reply-of-requires : tie.Need-reply-of-requires
 reply-of-requires c κs = search needs
@@ -43,10 +43,12 @@ same-length c = search needs
 returns : tie.Need-returns
 returns c =
     let v = c .before .before .before in
-    let start = v .before .before .before .before .before in
-    let t = start .pre .1 .0 in
-    by-verdict _ _ _ (start .pre .0 .0) (t .0) (start .pre .1 .1) _
-    (sym (verdict-is _ _ (t .0) _ (t .1) _ _ _ (v .verdict-of .ensures)) ∙ ap faultOf (c .before .fault .given .1))
+    let bytes = v .before .before .before .slice-known in
+    let pre = v .before .before .before .before .before .pre in
+    let table = pre .1 .0 in
+    let stands = standing (slice-bytes _ (bytes .given)) (table .0) (pre .0 .stamp-is) (table .1) in
+    by-verdict _ _ _ (pre .0 .accepted) (table .0) (pre .1 .1) _
+    (sym (verdict-is _ _ _ _ stands _ _ (v .verdict-of .ensures)) ∙ ap faultOf (c .before .fault .given .1))
 
 same-length-2 : tie.Need-same-length-2
 same-length-2 c = search needs
@@ -54,13 +56,23 @@ same-length-2 c = search needs
 returns-2 : tie.Need-returns-2
 returns-2 c =
     let v = c .before .before .before .before .before .before .before in
-    let start = v .before .before .before .before .before in
-    let t = start .pre .1 .0 in
+    let bytes = v .before .before .before .slice-known in
+    let pre = v .before .before .before .before .before .pre in
+    let table = pre .1 .0 in
+    let stands = standing (slice-bytes _ (bytes .given)) (table .0) (pre .0 .stamp-is) (table .1) in
+    let nothing = ap faultOf (c .before .before .before .before .before .enum-told .given .1) in
     let u = c .before .before .before .update in
     ap (λ (a : Answer). outcome a (u .last .1 .1 .1 .1 .0)) (c .reply-of .ensures)
-    ∙ u .ensures
-    ∙ update-is _ _ _ (start .pre .0 .0) (t .0) (start .pre .1 .1)
-    (sym (verdict-is _ _ (t .0) _ (t .1) _ _ _ (v .verdict-of .ensures)) ∙ ap faultOf (c .before .before .before .before .before .enum-told .given .1))
+    ∙ u .ensures _
+    (record {
+      accepted = pre .0 .accepted;
+      stamp-is = pre .0 .stamp-is;
+      accepted-table = table .0;
+      held-are = table .1;
+      masks = v .verdict-of .ensures .each-is;
+      effect-is = effect-is _ _ _ _ stands _ _ (v .verdict-of .ensures) nothing;
+    })
+    ∙ update-is _ _ _ (pre .0 .accepted) (table .0) (pre .1 .1) (sym (verdict-is _ _ _ _ stands _ _ (v .verdict-of .ensures)) ∙ nothing)
 
 pub decide-good-spec : {M : Type 1} → statement M
 decide-good-spec =

@@ -30,7 +30,7 @@ returns : tie.Need-returns
 returns c =
     let f = c .before .before .before in
     let start = f .before .before .before .before in
-    by-request _ _ _ (start .pre .0 .0) (start .pre .1) _ (sym (f .request-fault .ensures) ∙ ap faultOf (c .before .fault .given .1))
+    by-request _ _ _ (start .pre .0 .accepted) (start .pre .1) _ (sym (f .request-fault .ensures) ∙ ap faultOf (c .before .fault .given .1))
 
 same-length : tie.Need-same-length
 same-length c = search needs

@@ -27,7 +27,7 @@ same-length c = search needs
 returns : tie.Need-returns
 returns c =
     let f = c .before .before .before in
-    by-table _ _ _ (f .before .before .before .before .before .pre .0) _ (sym (f .table-fault .ensures) ∙ ap faultOf (c .before .fault .given .1))
+    by-table _ _ _ (f .before .before .before .before .before .pre .accepted) _ (sym (f .table-fault .ensures) ∙ ap faultOf (c .before .fault .given .1))
 
 same-length-2 : tie.Need-same-length-2
 same-length-2 c = search needs
