@@ -1,6 +1,6 @@
 // What a call answers.
+use format::answer::Grant;
 use format::answer::Refusal;
-use update::grant::Grant;
 
 // Acceptance with a policy's rules, a table's records or a fresh table's places; a grant; or a refusal.
 pub enum Reply {

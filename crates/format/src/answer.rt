@@ -1,4 +1,4 @@
-// What a check answers.
+// What checks and calls answer.
 
 // A refusal: its number, and the two that come with it, each 0 where document 01 has none.
 pub struct Refusal {
@@ -11,4 +11,11 @@ pub struct Refusal {
 pub enum Fault {
     Nothing,
     At(Refusal),
+}
+
+// A grant: 1 if the request was recorded, else 0; the records that it removed; the records that the table holds now.
+pub struct Grant {
+    pub recorded: u32,
+    pub removed: u32,
+    pub held: u32,
 }

@@ -17,7 +17,7 @@ use Rattle.judge.specs.Decide.{decide}
 use Rattle.register.specs.Demand3.{answers, after, Kept, Demand3}
 use Rattle.demand3.proofs.Demand3.{demand-3, last-table}
 use Rattle.demand3.proofs.Consequences.{untouched}
-use Rattle.engine.proofs.Checked.{Blocked, good-blocked}
+use Rattle.policy_check.proofs.Lengths.{Blocked, good-blocked}
 use Rattle.session.specs.Session.{written, AsRegister, Ran}
 
 module _ (policy buffer : List ℕ) where

@@ -19,7 +19,6 @@ use Rattle.matching.specs.declared.masks.Each.{Each}
 use Rattle.matching.specs.declared.rules.Effect.{Effect}
 use Rattle.matching.specs.Masks.{EachOf}
 use Rattle.matching.specs.Sets.{EffectIs}
-use Rattle.update.specs.declared.grant.Grant as declared
 use Rattle.update.specs.declared.grant.Updated.{Updated}
 use Rattle.update.specs.declared.grant.Updated.the-variants.{Full, Granted}
 

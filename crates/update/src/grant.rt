@@ -19,16 +19,10 @@ use clearing::room::has_room;
 use fields::layout::BLOCK_BYTES;
 use fields::sets::RuleSet;
 use fields::tables::Blocks;
+use format::answer::Grant;
 use matching::masks::Each;
 use matching::rules::Effect;
 use sums::sum::Sum;
-
-// A grant's numbers: 1 if the request is recorded, the records gone, the records held.
-pub struct Grant {
-    pub recorded: u32,
-    pub removed: u32,
-    pub held: u32,
-}
 
 // What steps 4 and 5 answer.
 pub enum Updated {
