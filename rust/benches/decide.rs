@@ -30,7 +30,6 @@ fn main() {
         roles: |_| 0x7F,
         operation: |i| 1 + i as u16 % DONE,
         marks: |_| u32::MAX,
-        privilege,
     };
     let worst = Worst::new(&alike);
     // No two records have the same active roles, privilege or marks.
@@ -50,19 +49,6 @@ fn main() {
         marks: |i| 0xFFFF_FFFE ^ (i as u32) << 8,
         ..alike
     });
-    // No two the same privilege, and all that there are begin their way at the same head, with the same six turns.
-    let numbers = Worst::new(&Kind {
-        name: "numbers",
-        operation: other,
-        privilege: |operation| {
-            let word = 66_366 + 1021 * 64 * u32::from(operation);
-            Privilege {
-                operation: word as u16,
-                target: (word >> 16) as u16,
-            }
-        },
-        ..alike
-    });
     println!("Median time of one call in microseconds; the last three columns are ratios.\n");
     heading();
     let workloads = [
@@ -71,7 +57,6 @@ fn main() {
         roles.workloads(),
         privileges.workloads(),
         marks.workloads(),
-        numbers.workloads(),
     ];
     // `cargo bench --offline -- WORD` measures only the workloads that have the word in their name.
     let word = std::env::args().skip(1).find(|a| !a.starts_with("--"));
@@ -508,7 +493,6 @@ impl Typical {
 /// another context and marked for every rule.
 struct Worst {
     name: &'static str,
-    privilege: fn(u16) -> Privilege,
     policy: Vec<u8>,
     table: Vec<u8>,
 }
@@ -522,13 +506,10 @@ struct Kind {
     roles: fn(usize) -> u32,
     operation: fn(usize) -> u16,
     marks: fn(usize) -> u32,
-    /// Which privilege an operation stands for.
-    privilege: fn(u16) -> Privilege,
 }
 
 impl Worst {
     fn new(kind: &Kind) -> Worst {
-        let privilege = kind.privilege;
         let privileges = |operations: &[u16]| Exclusion {
             m: 8,
             members: Members::Privileges(operations.iter().map(|&o| privilege(o)).collect()),
@@ -578,7 +559,6 @@ impl Worst {
         let table = write_table(sums(&policy), &records, 128);
         Worst {
             name: kind.name,
-            privilege,
             policy,
             table,
         }
@@ -597,7 +577,7 @@ impl Worst {
             call,
             policy: self.policy.clone(),
             table: self.table.clone(),
-            request: request_of(7, 1, (self.privilege)(operation), &context),
+            request: request_of(7, 1, privilege(operation), &context),
             expected,
         };
         let (all, none) = (places(128), Reply::refuse(31, 0, 0));

@@ -12,6 +12,8 @@
 //!   text;
 //! * [`raw`] has the four calls on any bytes.
 //!
+//! A call allocates nothing and takes at most 24 KiB of stack, `SOD_STACK` in include/sod.h.
+//!
 //! # The sample session
 //!
 //! Rule 1 keeps apart, within each job, whatever the depot: adjusting, checking, and checking again;

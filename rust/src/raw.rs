@@ -4,6 +4,9 @@
 //! none. A slice has a true length, and the borrow checker keeps a lent table apart from the policy
 //! and the request, so that nothing is left of what the header asks of a C caller.
 //!
+//! No call allocates, and each takes at most 24 KiB of stack, whatever the bytes: tests/stack.rs runs
+//! every one on a stack of that size.
+//!
 //! [`Policy`](crate::Policy) and [`Table`](crate::Table) are the comfortable way in; this one is for
 //! bytes that may be bad.
 

@@ -148,7 +148,7 @@ fn every_call_on_a_small_stack() {
     };
     let exclusion = |x: u16| Exclusion {
         m: 2,
-        members: if x % 2 == 0 {
+        members: if x.is_multiple_of(2) {
             Members::Privileges(vec![privilege(100 + x), privilege(200 + x)])
         } else {
             Members::Roles(vec![2, 3 + x])
