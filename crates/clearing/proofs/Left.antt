@@ -1,8 +1,6 @@
 -- The records that are left of those in a table: none, one more, and all of them where no rule ends.
 -- Assumes nothing.
 use Prim.Native.Nat.{ℕ, _+_, _-_}
-use native.Mathlib.Nat.{zero-add}
-use native.Mathlib.Numerals.{add-one}
 use native.Mathlib.Omega.{arith}
 use mathlib.Core.Path.{_≡_, refl, ap₂}
 use mathlib.Core.Bool.{Bool, true, false, cond, not}
@@ -13,14 +11,13 @@ use lib.Dec.{eqb}
 use borrow.Author.Tests.{eq-eqb, ne-eqb}
 use Rattle.words.specs.Lists.{tab, keep}
 use Rattle.word_laws.proofs.Keep.{keep-append, map-append}
-use Rattle.word_laws.proofs.Lists.{length-tab}
+use Rattle.word_laws.proofs.Lists.{length-tab, tab-next}
 use Rattle.format.specs.Request.{Request}
 use Rattle.format.specs.Table.{Record, hasMark}
 use Rattle.format.specs.Place.{recordHere, recordsHere}
 use Rattle.judge.specs.NewTable.{sweep}
 use Rattle.matching.specs.declared.masks.Each.{Each}
-use Rattle.matching.specs.Masks.{apartBy}
-use Rattle.table_write.proofs.Parts.{tab-more}
+use Rattle.matching.specs.Masks.{apartBy, togetherBy}
 use Rattle.clearing.specs.Cleared.{keptMarks, clearedBy, leftBy}
 
 -- ---- lists of records
@@ -31,7 +28,7 @@ records-none s = refl
 
 pub records-one : (s : List ℕ) (n : ℕ) → recordsHere s (n + 1) ≡ recordsHere s n ++ (recordHere s n ∷ [])
 unfolding recordsHere
-records-one s n = rw (add-one n, tab-more (recordHere s) 0 n, zero-add)
+records-one s n = tab-next (recordHere s) n
 
 pub length-here : (s : List ℕ) (n : ℕ) → length (recordsHere s n) ≡ n
 unfolding recordsHere
@@ -61,7 +58,7 @@ sweep-more s i = rw (records-one s i) (keep-append hasMark (recordsHere s i) (re
 
 -- where no rule ends, records with marks stay as they are, whatever the masks
 pub same-records : (e : Each) (q : Request) (rs : List Record) → map (clearedBy e q 0) rs ≡ rs
-unfolding clearedBy keptMarks
+unfolding clearedBy keptMarks togetherBy
 same-records e q [] = refl
 same-records e q (r ∷ rs) =
     ap₂ {C = List Record} (λ m xs. record { request = r .request; marks = m } ∷ xs) (go (r .marks) (bitAnd 0 (apartBy e q (r .request)))) (same-records e q rs)

@@ -1,4 +1,3 @@
-pub mod Masks
 pub mod Left
 pub mod After
 pub mod MarksCleared

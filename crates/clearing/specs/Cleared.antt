@@ -9,12 +9,12 @@ use Rattle.format.specs.Table.{Record}
 use Rattle.format.specs.Place.{recordsHere}
 use Rattle.judge.specs.NewTable.{sweep}
 use Rattle.matching.specs.declared.masks.Each.{Each}
-use Rattle.matching.specs.Masks.{apartBy}
+use Rattle.matching.specs.Masks.{togetherBy}
 
--- the marks that a record of the request x keeps, where the rules of the set `ends` end: it loses those of the rules that end, except
--- where its run place is another than that of the request q
+-- the marks that a record of the request x keeps, where the rules of the set `ends` end: it loses those of the rules under which it
+-- shares the run place of the request q
 unfoldable pub keptMarks : Each → Request → ℕ → Request → ℕ → ℕ
-keptMarks e q ends x marks = marks - bitAnd marks (ends - bitAnd ends (apartBy e q x))
+keptMarks e q ends x marks = marks - bitAnd marks (togetherBy e ends q x)
 
 -- the record with the marks that it keeps
 unfoldable pub clearedBy : Each → Request → ℕ → Record → Record

@@ -13,20 +13,16 @@ use fields::sets::RuleSet;
 use fields::tables::Blocks;
 use fields::tables::record_place;
 use matching::masks::Each;
-use matching::masks::apart;
+use matching::masks::together;
 use table_write::blocks::BlockSet;
 use table_write::write::put_marks;
 
-// The marks that the record at a byte keeps. Run places are looked at only where it has a mark of a rule that ends.
+// The marks that the record at a byte keeps.
 pub fn cleared_marks(each: Each, ends: RuleSet, q: &[u8], table: &[u8], at: usize) -> RuleSet
     requires { ⌜ (length (now q) ≡ requestBytes) × (at + recordBytes ≤ length (now table)) ⌝ }
     ensures { λ r. ⌜ r .0 ≡ clearedBy each (now (q .entry)) (ends .0) (recordFrom (now (table .entry)) at) .marks ⌝ }
 {
-    let marks = request::marks(table, at);
-    if marks.and(ends).is_empty() {
-        return marks;
-    }
-    marks.without(ends.without(apart(each, q, table, at)))
+    request::marks(table, at).without(together(each, ends, q, table, at))
 }
 
 // "Clear its mark in that run place", for each rule that ends. Returns the blocks in which a record's marks changed. Nothing else is written.

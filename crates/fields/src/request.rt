@@ -5,6 +5,7 @@ ghost use lib.ListN.{length};
 ghost use Rattle.words.specs.Bytes.{part, u32At};
 ghost use Rattle.format.specs.Layout.{requestBytes, recordBytes};
 ghost use Rattle.format.specs.Request.{user as userOf, roles as rolesOf};
+ghost use Rattle.format.specs.Rule.{fullPrivilege};
 ghost use Rattle.format.specs.Place.{recordFrom};
 ghost use Rattle.fields.specs.Code.{privilegeOf, doneBy};
 use crate::field::u32_at;
@@ -13,6 +14,7 @@ use crate::layout::PRIVILEGE_AT;
 use crate::layout::ROLES_AT;
 use crate::number::User;
 use crate::privilege::Privilege;
+use crate::privilege::full;
 use crate::sets::Roles;
 use crate::sets::RuleSet;
 
@@ -38,6 +40,14 @@ pub fn privilege(s: &[u8], at: usize) -> Privilege
     ensures { λ r. ⌜ privilegeOf r ≡ doneBy (part (now (s .entry)) at requestBytes) ⌝ }
 {
     Privilege::read(s, at + PRIVILEGE_AT)
+}
+
+// Its operation and target are from 1.
+pub fn full_privilege(s: &[u8], at: usize) -> bool
+    requires { ⌜ at + requestBytes ≤ length (now s) ⌝ }
+    ensures { λ r. ⌜ r ≡ fullPrivilege (doneBy (part (now (s .entry)) at requestBytes)) ⌝ }
+{
+    full(s, at + PRIVILEGE_AT)
 }
 
 // The marks of the record that begins at a byte.

@@ -12,11 +12,13 @@ use Rattle.format.specs.Rule.{Rule, Level}
 unfoldable pub levelFits : Level → ℕ → ℕ → Bool
 levelFits l type value = eqb type (l .type) && (not (eqb (l .mark) 1) || eqb value (l .value))
 
+-- what a rule asks of a request's context at level i
+abbrev pub fitsAt : Rule → Request → ℕ → Bool
+fitsAt r q i = levelFits (r .level i) (levelType (contextOf q) i) (levelValue (contextOf q) i)
+
 -- "A context fits a rule if it has at least the rule's depth and, at each rule level, the same type, and for mark 1 the same value."
 unfoldable pub fits : Rule → Request → Bool
-fits r q =
-    leb (r .depth) (depthOf (contextOf q))
-    && allBelow (r .depth) (λ i. levelFits (r .level i) (levelType (contextOf q) i) (levelValue (contextOf q) i))
+fits r q = leb (r .depth) (depthOf (contextOf q)) && allBelow (r .depth) (fitsAt r q)
 
 -- what a level takes of a context's value into the run place: the value at mark 3, and nothing, written 0, at any other mark
 unfoldable pub placeValue : Level → ℕ → ℕ

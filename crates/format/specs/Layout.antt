@@ -53,6 +53,13 @@ firstFlagAt = 10
 abbrev pub lastFlagAt : ℕ
 lastFlagAt = 11
 
+-- the bytes between the flags and the levels are not named
+abbrev pub ruleSpareAt : ℕ
+ruleSpareAt = 12
+
+abbrev pub ruleSpareBytes : ℕ
+ruleSpareBytes = 4
+
 abbrev pub firstStepAt : ℕ
 firstStepAt = 48
 
@@ -108,6 +115,13 @@ mostMembers = 8
 
 abbrev pub memberBytes : ℕ
 memberBytes = 4
+
+-- the bytes between the exclusions and the check are not named
+abbrev pub ruleTailAt : ℕ
+ruleTailAt = 344
+
+abbrev pub ruleTailBytes : ℕ
+ruleTailBytes = 160
 
 -- ---- the permission block and the table block
 

@@ -9,7 +9,7 @@ use Rattle.words.specs.Lists.{allBelow}
 use Rattle.words.specs.First.{_orElse_, unless, first}
 use Rattle.words.specs.Bytes.{byteAt, u16At, zeroFrom}
 use Rattle.format.specs.Answer.{Refusal, refusal}
-use Rattle.format.specs.Layout.{highestRole, depthAt, exclusionsAt, firstFlagAt, lastFlagAt, firstStepAt, lastStepAt}
+use Rattle.format.specs.Layout.{highestRole, depthAt, exclusionsAt, firstFlagAt, lastFlagAt, firstStepAt, lastStepAt, ruleSpareAt, ruleSpareBytes, ruleTailAt, ruleTailBytes}
 use Rattle.format.specs.Layout.{mostLevels, levelBytes, typeAt, markAt, levelPadAt, valueAt, levelTailAt}
 use Rattle.format.specs.Layout.{mostExclusions, exclusionBytes, kindAt, mAt, nAt, exclusionPadAt, membersAt, mostMembers, memberBytes}
 
@@ -168,7 +168,7 @@ blankExclusion x =
 -- what of a rule block is neither its first eight bytes, nor an exclusion, nor the check. "Bytes not named are zero": bytes 12 to 15, between the
 -- flags and the levels, and 344 to 503, between the exclusions and the check.
 unfoldable pub goodRuleBytes : List ℕ → Bool
-goodRuleBytes b = goodRule (ruleAt b) && zeroFrom b 12 4 && zeroFrom b 344 160
+goodRuleBytes b = goodRule (ruleAt b) && zeroFrom b ruleSpareAt ruleSpareBytes && zeroFrom b ruleTailAt ruleTailBytes
 
 -- exclusion e, from 0: a good one among the rule's number, and zero past it ("one past the number that is not zero is bad")
 unfoldable pub goodExclusionAt : Rule → ℕ → Bool

@@ -32,7 +32,7 @@ use Rattle.judge.specs.Verdict.{judges}
 use Rattle.judge.specs.NewTable.{standsIn, openIn, pastIn}
 use Rattle.fields.specs.Code.{HasRoom}
 use Rattle.matching.specs.declared.masks.Each.{Each}
-use Rattle.matching.specs.Masks.{EachOf, apartIn, apartBy}
+use Rattle.matching.specs.Masks.{EachOf, apartIn, apartBy, togetherBy}
 use Rattle.matching.specs.Sets.{fittingIn, judgingIn}
 use Rattle.matching.proofs.Apart.{apart-is}
 use Rattle.history.specs.Code.{sharedBy, openBy, mayCount, foundIn, standsBy, pastBy}
@@ -69,7 +69,7 @@ module _
         twice false = refl
 
     shared-bit : bit i (sharedBy e fitting q r) ≡ standsBy e q i r
-    unfolding sharedBy standsBy
+    unfolding sharedBy togetherBy standsBy
     shared-bit =
         bit-without i (bitAnd (r .marks) fitting) (apartBy e q (r .request))
         ∙ ap (λ (b : Bool). b && not (bit i (apartBy e q (r .request)))) (bit-and i (r .marks) fitting ∙ ap (λ (b : Bool). bit i (r .marks) && b) f ∙ both (bit i (r .marks)))

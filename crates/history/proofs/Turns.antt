@@ -1,23 +1,22 @@
 -- What a pass over records finds, with one record more; and the words of a past, with one request more.
 -- Assumes nothing.
-use Prim.Native.Nat.{ℕ, zero, suc, _+_, _*_, _^_, _<_, _≤_}
-use native.Mathlib.Nat.{zero-add, pow-suc}
+use Prim.Native.Nat.{ℕ, suc, _+_, _*_, _<_, _≤_}
 use native.Mathlib.Numerals.{add-one}
 use native.Mathlib.Omega.{arith}
 use mathlib.Core.Path.{_≡_, refl, sym, ap, ap₂, _∙_}
-use mathlib.Core.Bool.{Bool, true, false, cond, not, _&&_, _||_, false≢true}
+use mathlib.Core.Bool.{Bool, true, false, cond, not, _&&_, false≢true}
 use mathlib.Core.List.{List, [], _∷_, _++_, append-nil, flatten, map}
 use borrow.Author.Tests.{eqb-true}
-use lib.Bits.{bitOr, or-lt, or-zero-l, or-zero-r}
-use lib.Pow.{pow-mono}
+use lib.Bits.{bitOr, or-zero-l, or-zero-r}
 use lib.Dec.{eqb}
 use lib.ListN.{length, getD, take, drop, set, length-append, length-set}
 use lib.Seq.{sets, sets-eq, take-at, take-suc, take-suc-set, take-length, length-take-le, length-sets}
 use Rattle.words.specs.Lists.{keep, tab}
 use Rattle.words.specs.Bytes.{part, bit}
-use Rattle.word_laws.proofs.Keep.{keep-append, map-append}
+use Rattle.word_laws.proofs.Keep.{keep-more, map-append}
 use Rattle.word_laws.proofs.Parts.{part-whole}
-use Rattle.word_laws.proofs.BitLaws.{bit-or, same-bits}
+use Rattle.word_laws.proofs.BitLaws.{or-assoc}
+use Rattle.word_laws.proofs.Lists.{tab-next}
 use Rattle.format.specs.Layout.{requestBytes, recordBytes}
 use Rattle.format.specs.Request.{Request, user, roles}
 use Rattle.format.specs.Table.{Record, marked}
@@ -40,48 +39,6 @@ module _ (s : List ℕ) (n : ℕ) (room : HasRoom s n) where
 
   pub place-few : (k : ℕ) → k < n → recordPlace k < 65536
   place-few k h = omega (arith, room .whole, room .most, room .few)
-
--- ---- one element more
-
-module _ {A : Type 0} where
-  tab-more : (f : ℕ → A) (k n : ℕ) → tab f k (suc n) ≡ tab f k n ++ (f (k + n) ∷ [])
-  unfolding tab
-  tab-more f k zero = ap {B = List A} (λ i. f i ∷ []) (omega arith)
-  tab-more f k (suc n) =
-      ap {B = List A} (λ r. f k ∷ r) (tab-more f (suc k) n ∙ ap {B = List A} (λ i. tab f (suc k) n ++ (f i ∷ [])) (omega arith))
-
-  tab-next : (f : ℕ → A) (k : ℕ) → tab f 0 (k + 1) ≡ tab f 0 k ++ (f k ∷ [])
-  tab-next f k = rw (add-one k, tab-more f 0 k, zero-add k)
-
-  keep-more : (t : A → Bool) (xs : List A) (x : A) → keep t (xs ++ (x ∷ [])) ≡ keep t xs ++ cond (t x) (x ∷ []) []
-  unfolding keep
-  keep-more t xs x = keep-append t xs (x ∷ [])
-
--- the sets of either are joined in any order
-below-power : (n : ℕ) → n < 2 ^ n
-below-power zero = omega arith
-below-power (suc n) = omega (arith, pow-suc 2 n, below-power n)
-
-or-assoc : (x y z : ℕ) → bitOr (bitOr x y) z ≡ bitOr x (bitOr y z)
-or-assoc x y z =
-    same-bits n (bitOr (bitOr x y) z) (bitOr x (bitOr y z)) (or-lt n (bitOr x y) z (or-lt n x y hx hy) hz) (or-lt n x (bitOr y z) hx (or-lt n y z hy hz))
-    (λ i h. rw (bit-or i (bitOr x y) z, bit-or i x y, bit-or i x (bitOr y z), bit-or i y z) (go (bit i x) (bit i y) (bit i z)))
-  where
-    n : ℕ
-    n = x + y + z
-
-    hx : x < 2 ^ n
-    hx = omega (arith, below-power x, pow-mono {i = x} {j = n} (omega arith))
-
-    hy : y < 2 ^ n
-    hy = omega (arith, below-power y, pow-mono {i = y} {j = n} (omega arith))
-
-    hz : z < 2 ^ n
-    hz = omega (arith, below-power z, pow-mono {i = z} {j = n} (omega arith))
-
-    go : (a b c : Bool) → (a || b) || c ≡ a || (b || c)
-    go true b c = refl
-    go false b c = refl
 
 -- ---- a record more
 

@@ -1,6 +1,6 @@
 -- What the values of the code stand for: sets of rules as numbers, the rule of index i at bit i, and records by the bytes at which they begin.
 -- Assumes nothing.
-use Prim.Native.Nat.{ℕ, _-_}
+use Prim.Native.Nat.{ℕ}
 use mathlib.Core.Bool.{Bool, not, _&&_}
 use mathlib.Core.List.{List, [], _∷_, map}
 use lib.Bits.{bitAnd, bitOr}
@@ -13,11 +13,11 @@ use Rattle.format.specs.Table.{Record, marked}
 use Rattle.format.specs.Place.{recordPlace, recordFrom}
 use Rattle.judge.specs.Tally.{sameUser}
 use Rattle.matching.specs.declared.masks.Each.{Each}
-use Rattle.matching.specs.Masks.{apartBy}
+use Rattle.matching.specs.Masks.{apartBy, togetherBy}
 
 -- the rules of a set for which a record is marked, in the request's run place
 unfoldable pub sharedBy : Each → ℕ → Request → Record → ℕ
-sharedBy e rules q r = bitAnd (r .marks) rules - bitAnd (bitAnd (r .marks) rules) (apartBy e q (r .request))
+sharedBy e rules q r = togetherBy e (bitAnd (r .marks) rules) q (r .request)
 
 -- the rules of a set whose run place is open: some record is marked for them there
 unfoldable pub openBy : Each → ℕ → Request → List Record → ℕ

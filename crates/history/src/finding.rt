@@ -13,7 +13,7 @@ use fields::request;
 use fields::sets::RuleSet;
 use fields::tables::record_place;
 use matching::masks::Each;
-use matching::masks::apart;
+use matching::masks::together;
 
 // The request at a byte is this user's.
 pub fn same_user(s: &[u8], at: usize, who: User) -> bool
@@ -23,17 +23,12 @@ pub fn same_user(s: &[u8], at: usize, who: User) -> bool
     request::user(s, at).0 == who.0
 }
 
-// The rules of a set for which the record at a byte is marked and stands in the request's run place. The marks come first: they often
-// decide.
+// The rules of a set for which the record at a byte is marked and stands in the request's run place.
 pub fn shared_at(each: Each, rules: RuleSet, q: &[u8], table: &[u8], at: usize) -> RuleSet
     requires { ⌜ (length (now q) ≡ requestBytes) × (at + recordBytes ≤ length (now table)) ⌝ }
     ensures { λ r. ⌜ r .0 ≡ sharedBy each (rules .0) (now (q .entry)) (recordFrom (now (table .entry)) at) ⌝ }
 {
-    let marks = request::marks(table, at).and(rules);
-    if marks.is_empty() {
-        return marks;
-    }
-    marks.without(apart(each, q, table, at))
+    together(each, request::marks(table, at).and(rules), q, table, at)
 }
 
 // What the pass finds: the rules whose run place is open, and how many records may count.

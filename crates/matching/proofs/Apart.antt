@@ -20,7 +20,7 @@ use Rattle.format_laws.proofs.AcceptedPolicy.{depth-few}
 use Rattle.matching.specs.Levels.{sameAt}
 use Rattle.matching.proofs.Levels.{same-place}
 use Rattle.matching.specs.declared.masks.Each.{Each}
-use Rattle.matching.specs.Masks.{isEach, eachAt, EachOf, apartIn, apartBy}
+use Rattle.matching.specs.Masks.{isEach, eachAt, EachOf, apartIn, apartWithin, apartBy}
 
 -- not all of the first d pass exactly where one of the first n, of which there are at least d, is among the d and fails
 some-fails : (f : ℕ → Bool) (n d : ℕ) → d ≤ n → anyBelow n (λ l. ltb l d && not (f l)) ≡ not (allBelow d f)
@@ -54,14 +54,19 @@ module _ (p : Policy) (q x : Request) where
 
   apart-rule :
       (i : ℕ) → p .rule i .depth ≤ 4
-      → ((apartLevel 0 i || apartLevel 1 i) || apartLevel 2 i) || apartLevel 3 i ≡ not (samePlace (p .rule i) q x)
+      → apartLevel 0 i || ((apartLevel 1 i || apartLevel 2 i) || apartLevel 3 i) ≡ not (samePlace (p .rule i) q x)
   unfolding anyBelow apartLevel isEach
   apart-rule i h =
-      anyBelow-same 4 (λ l. apartLevel l i) (λ l. ltb l (p .rule i .depth) && not (sameAt (p .rule i) q x l))
+      join (apartLevel 0 i) (apartLevel 1 i) (apartLevel 2 i) (apartLevel 3 i)
+      ∙ anyBelow-same 4 (λ l. apartLevel l i) (λ l. ltb l (p .rule i .depth) && not (sameAt (p .rule i) q x l))
       (λ l k. turn (eqb (levelValue (contextOf q) l) (levelValue (contextOf x) l)) (ltb l (p .rule i .depth)) (eqb (p .rule i .level l .mark) 3))
       ∙ some-fails (sameAt (p .rule i) q x) 4 (p .rule i .depth) h
       ∙ ap not (sym (same-place (p .rule i) q x))
     where
+      join : (a b c d : Bool) → a || ((b || c) || d) ≡ ((a || b) || c) || d
+      join true b c d = refl
+      join false b c d = refl
+
       turn : (e d m : Bool) → not e && (d && m) ≡ d && not (not m || e)
       turn true true true = refl
       turn true true false = refl
@@ -71,14 +76,14 @@ module _ (p : Policy) (q x : Request) where
       turn false false m = refl
 
   pub apart-all : (e : Each) → EachOf p e → ((i : ℕ) → i < p .rules → p .rule i .depth ≤ 4) → apartBy e q x ≡ apartIn p q x
-  unfolding apartBy apartIn eachAt apartLevel
+  unfolding apartBy apartWithin apartIn eachAt apartLevel
   apart-all e is few =
       rw (is .at-first, is .at-second, is .at-third, is .at-fourth)
       (rw (bits-under (p .rules) (isEach p 0) _, bits-under (p .rules) (isEach p 1) _, bits-under (p .rules) (isEach p 2) _, bits-under (p .rules) (isEach p 3) _)
-      (rw (bits-or (p .rules) (apartLevel 0) (apartLevel 1))
-      (rw (bits-or (p .rules) (λ i. apartLevel 0 i || apartLevel 1 i) (apartLevel 2))
-      (rw (bits-or (p .rules) (λ i. (apartLevel 0 i || apartLevel 1 i) || apartLevel 2 i) (apartLevel 3))
-      (bits-same (p .rules) (λ i. ((apartLevel 0 i || apartLevel 1 i) || apartLevel 2 i) || apartLevel 3 i) (λ i. not (samePlace (p .rule i) q x))
+      (rw (bits-or (p .rules) (apartLevel 1) (apartLevel 2))
+      (rw (bits-or (p .rules) (λ i. apartLevel 1 i || apartLevel 2 i) (apartLevel 3))
+      (rw (bits-or (p .rules) (apartLevel 0) (λ i. (apartLevel 1 i || apartLevel 2 i) || apartLevel 3 i))
+      (bits-same (p .rules) (λ i. apartLevel 0 i || ((apartLevel 1 i || apartLevel 2 i) || apartLevel 3 i)) (λ i. not (samePlace (p .rule i) q x))
       (λ i h. apart-rule i (few i h)))))))
 
 -- under an accepted policy

@@ -1,23 +1,21 @@
 -- A rule's levels beside those of requests: the fields that the code reads, and two requests of one run place.
 -- Assumes nothing.
-use Prim.Native.Nat.{ℕ, _+_, _*_, _/_, _%_, _<_}
+use Prim.Native.Nat.{ℕ, _+_, _*_, _<_}
 use native.Mathlib.Omega.{arith}
 use mathlib.Core.Path.{_≡_, refl, ap, _∙_}
 use mathlib.Core.Bool.{Bool, true, false, cond, not, _||_}
 use mathlib.Core.List.{List}
-use lib.ListN.{getD}
 use lib.Dec.{eqb}
 use Rattle.words.specs.Lists.{allBelow}
-use Rattle.words.specs.Bytes.{u16At, u32At, part}
-use Rattle.word_laws.proofs.Bytes.{Byte}
+use Rattle.words.specs.Bytes.{u16At, part}
 use Rattle.word_laws.proofs.Parts.{u16At-part}
 use Rattle.word_laws.proofs.Tests.{allBelow-same}
 use Rattle.word_laws.proofs.Same.{same-tabs}
-use Rattle.format.specs.Request.{Request, contextOf, levelType, levelValue}
+use Rattle.format.specs.Request.{Request, contextOf, levelValue}
 use Rattle.format.specs.Rule.{Rule, Level}
 use Rattle.format.specs.Fits.{placeValue, place, samePlace}
 use Rattle.matching.specs.Levels.{sameAt}
-use Rattle.request_check.proofs.RequestWords.{context-at, level-type, level-value}
+use Rattle.request_check.proofs.RequestWords.{context-at}
 
 -- ---- the levels of a request at a place
 
@@ -26,13 +24,6 @@ module _ (s : List ℕ) (at i : ℕ) (four : i < 4) where
   value-at =
       rw (context-at s at)
       (u16At-part s (at + 12) 16 (4 * i + 2) (omega arith) ∙ ap (u16At s) (omega arith))
-
-  module _ (bytes : (j : ℕ) → Byte (getD s j 0)) where
-    pub type-word : levelType (contextOf (part s at 28)) i ≡ u32At s (at + 12 + 4 * i) % 65536
-    type-word = rw (context-at s at) (level-type s bytes (at + 12) i four)
-
-    pub value-word : levelValue (contextOf (part s at 28)) i ≡ u32At s (at + 12 + 4 * i) / 65536
-    value-word = rw (context-at s at) (level-value s bytes (at + 12) i four)
 
 -- ---- run places
 

@@ -4,10 +4,10 @@ use Prim.Native.Nat.{ℕ, _+_, _-_, _^_, _<_}
 use native.Mathlib.Omega.{arith}
 use mathlib.Core.Path.{_≡_, refl}
 use mathlib.Core.Bool.{Bool, true, false, cond, not, _&&_, _||_}
-use lib.Bits.{bitAnd, bitOr, and-le-l}
+use lib.Bits.{bitAnd, bitOr}
 use Rattle.words.specs.Bytes.{bit, bits}
-use Rattle.word_laws.proofs.Bits.{bits-below, bit-bits, bits-same}
-use Rattle.word_laws.proofs.BitLaws.{bits-more, bits-fit, bit-and, bit-without, bits-or, bits-and, same-bits}
+use Rattle.word_laws.proofs.Bits.{bits-same}
+use Rattle.word_laws.proofs.BitLaws.{bits-more, bits-fit, bits-or, bits-and, bits-with, bits-without}
 use Rattle.format.specs.Request.{Request}
 use Rattle.format.specs.Rule.{isSet}
 use Rattle.format.specs.Fits.{fits}
@@ -23,20 +23,6 @@ pub bits-next :
     → (x + m ≡ bits (i + 1) f) × (x + m < 4294967296)
 bits-next i f h e b d = let more = bits-more i f e b d in (more, omega (arith, more, bits-fit (i + 1) f (omega arith)))
 
--- ---- sets that were made from tests
-
-module _ (n : ℕ) (f : ℕ → Bool) where
-  -- those that any number has
-  and-with : (x : ℕ) → bitAnd (bits n f) x ≡ bits n (λ i. f i && bit i x)
-  and-with x =
-      same-bits n (bitAnd (bits n f) x) (bits n (λ i. f i && bit i x)) (omega (arith, and-le-l (bits n f) x, bits-below n f)) (bits-below n (λ i. f i && bit i x))
-      (λ i h. rw (bit-and i (bits n f) x, bit-bits n f i h, bit-bits n (λ j. f j && bit j x) i h))
-
-  bits-without : (g : ℕ → Bool) → bits n f - bitAnd (bits n f) (bits n g) ≡ bits n (λ i. f i && not (g i))
-  bits-without g =
-      same-bits n (bits n f - bitAnd (bits n f) (bits n g)) (bits n (λ i. f i && not (g i))) (omega (arith, bits-below n f)) (bits-below n (λ i. f i && not (g i)))
-      (λ i h. rw (bit-without i (bits n f) (bits n g), bit-bits n f i h, bit-bits n g i h, bit-bits n (λ j. f j && not (g j)) i h))
-
 -- ---- who judges, ends and gives
 
 module _ (p : Policy) (q : Request) (m : Matched) (is : MatchedIs p q m) where
@@ -44,7 +30,7 @@ module _ (p : Policy) (q : Request) (m : Matched) (is : MatchedIs p q m) where
   unfolding fittingIn startingIn judgingIn judges
   judging-is x =
       rw (is .starting-are, is .fitting-are)
-      (rw (and-with (p .rules) fit x, bits-or (p .rules) (λ i. fit i && start i) (λ i. fit i && bit i x))
+      (rw (bits-with (p .rules) fit x, bits-or (p .rules) (λ i. fit i && start i) (λ i. fit i && bit i x))
       (bits-same (p .rules) (λ i. (fit i && start i) || (fit i && bit i x)) (λ i. fit i && (start i || bit i x)) (λ i h. turn (fit i) (start i) (bit i x))))
     where
       fit : ℕ → Bool

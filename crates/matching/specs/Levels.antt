@@ -4,14 +4,11 @@ use Prim.Native.Nat.{ℕ}
 use mathlib.Core.Bool.{Bool, not, _||_}
 use lib.Dec.{eqb}
 use Rattle.words.specs.Lists.{allBelow}
-use Rattle.format.specs.Request.{Request, contextOf, levelType, levelValue}
+use Rattle.format.specs.Request.{Request, contextOf, levelValue}
 use Rattle.format.specs.Rule.{Rule}
-use Rattle.format.specs.Fits.{levelFits}
+use Rattle.format.specs.Fits.{fitsAt}
 
--- the request has at level i what the rule asks there; and at its first n levels
-abbrev pub fitsAt : Rule → Request → ℕ → Bool
-fitsAt r q i = levelFits (r .level i) (levelType (contextOf q) i) (levelValue (contextOf q) i)
-
+-- the request has at its first n levels what the rule asks there
 abbrev pub fitsBelow : Rule → Request → ℕ → Bool
 fitsBelow r q n = allBelow n (fitsAt r q)
 

@@ -1,10 +1,10 @@
 -- Run places by masks: a number stands for a set of rules, rule i + 1 at bit i. Two contexts lie in different run places of a rule
 -- exactly where they differ in value at one of its levels with mark 3, each; so four masks, one a level, tell all rules at once.
 -- Assumes nothing.
-use Prim.Native.Nat.{ℕ}
+use Prim.Native.Nat.{ℕ, _-_}
 use mathlib.Core.Path.{_≡_}
 use mathlib.Core.Bool.{Bool, cond, not, _&&_}
-use lib.Bits.{bitOr}
+use lib.Bits.{bitAnd, bitOr}
 use lib.Dec.{eqb, ltb}
 use Rattle.words.specs.Bytes.{bits}
 use Rattle.format.specs.Request.{Request, contextOf, levelValue}
@@ -31,10 +31,16 @@ pub record EachOf (p : Policy) (e : Each) : Type 0 where
 unfoldable pub apartIn : Policy → Request → Request → ℕ
 apartIn p q x = bits (p .rules) (λ i. not (samePlace (p .rule i) q x))
 
--- what the code computes: a level's mask where the two requests differ in value at that level, and all four joined
+-- what the code computes: a level's mask where the two requests differ in value at that level; those behind the first joined; and all four
 abbrev pub apartAt : Request → Request → ℕ → ℕ → ℕ
 apartAt q x l mask = cond (eqb (levelValue (contextOf q) l) (levelValue (contextOf x) l)) 0 mask
 
+unfoldable pub apartWithin : Each → Request → Request → ℕ
+apartWithin e q x = bitOr (bitOr (apartAt q x 1 (e .second .0)) (apartAt q x 2 (e .third .0))) (apartAt q x 3 (e .fourth .0))
+
 unfoldable pub apartBy : Each → Request → Request → ℕ
-apartBy e q x =
-    bitOr (bitOr (bitOr (apartAt q x 0 (e .first .0)) (apartAt q x 1 (e .second .0))) (apartAt q x 2 (e .third .0))) (apartAt q x 3 (e .fourth .0))
+apartBy e q x = bitOr (apartAt q x 0 (e .first .0)) (apartWithin e q x)
+
+-- of a set of rules, those under which the two requests share a run place
+unfoldable pub togetherBy : Each → ℕ → Request → Request → ℕ
+togetherBy e rules q x = rules - bitAnd rules (apartBy e q x)

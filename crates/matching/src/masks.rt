@@ -6,7 +6,7 @@ ghost use Rattle.words.specs.Bytes.{part};
 ghost use Rattle.format.specs.Layout.{requestBytes};
 ghost use Rattle.format.specs.Policy.{policyOf};
 ghost use Rattle.policy_check.specs.Code.{CheckedIs};
-ghost use Rattle.matching.specs.Masks.{isEach, eachAt, EachOf, apartAt, apartBy};
+ghost use Rattle.matching.specs.Masks.{isEach, eachAt, EachOf, apartAt, apartWithin, apartBy, togetherBy};
 use fields::field::flag;
 use fields::field::u16_at;
 use fields::field::wide;
@@ -14,6 +14,7 @@ use fields::layout::BLOCK_BYTES;
 use fields::layout::CONTEXT_LEVEL_BYTES;
 use fields::layout::CONTEXT_VALUE_AT;
 use fields::layout::DEPTH_AT;
+use fields::layout::EACH;
 use fields::layout::LEVEL_BYTES;
 use fields::layout::LEVEL_MARK_AT;
 use fields::sets::RuleSet;
@@ -35,7 +36,7 @@ fn is_each(policy: &[u8], checked: Checked, l: usize, i: u32) -> bool
 {
     let at = BLOCK_BYTES * (i as usize);
     (l < wide(policy[at + DEPTH_AT]) as usize)
-        & (policy[at + (LEVEL_MARK_AT + LEVEL_BYTES * l)] == 3)
+        & (policy[at + (LEVEL_MARK_AT + LEVEL_BYTES * l)] == EACH)
 }
 
 // The rules that have mark 3 at level l.
@@ -79,13 +80,33 @@ fn apart_at(q: &[u8], s: &[u8], at: usize, l: usize, mask: RuleSet) -> RuleSet
     }
 }
 
+// Those that tell the two requests apart at a level behind the first.
+fn apart_within(each: Each, q: &[u8], s: &[u8], at: usize) -> RuleSet
+    requires { ⌜ (length (now q) ≡ requestBytes) × (at + requestBytes ≤ length (now s)) ⌝ }
+    ensures { λ r. ⌜ r .0 ≡ apartWithin each (now (q .entry)) (part (now (s .entry)) at requestBytes) ⌝ }
+{
+    apart_at(q, s, at, 1, each.second)
+        .or(apart_at(q, s, at, 2, each.third))
+        .or(apart_at(q, s, at, 3, each.fourth))
+}
+
+// Of these rules, those under which the request q and the one at a place share a run place. The levels behind the first come first: a job
+// tells more requests apart than its depot.
+pub fn together(each: Each, rules: RuleSet, q: &[u8], s: &[u8], at: usize) -> RuleSet
+    requires { ⌜ (length (now q) ≡ requestBytes) × (at + requestBytes ≤ length (now s)) ⌝ }
+    ensures { λ r. ⌜ r .0 ≡ togetherBy each (rules .0) (now (q .entry)) (part (now (s .entry)) at requestBytes) ⌝ }
+{
+    let near = rules.without(apart_within(each, q, s, at));
+    if near.is_empty() {
+        return near;
+    }
+    near.without(apart_at(q, s, at, 0, each.first))
+}
+
 // The rules under which the request q and the one at a place have different run places.
 pub fn apart(each: Each, q: &[u8], s: &[u8], at: usize) -> RuleSet
     requires { ⌜ (length (now q) ≡ requestBytes) × (at + requestBytes ≤ length (now s)) ⌝ }
     ensures { λ r. ⌜ r .0 ≡ apartBy each (now (q .entry)) (part (now (s .entry)) at requestBytes) ⌝ }
 {
-    apart_at(q, s, at, 0, each.first)
-        .or(apart_at(q, s, at, 1, each.second))
-        .or(apart_at(q, s, at, 2, each.third))
-        .or(apart_at(q, s, at, 3, each.fourth))
+    apart_at(q, s, at, 0, each.first).or(apart_within(each, q, s, at))
 }

@@ -115,7 +115,7 @@ pub fn good_request(s: &[u8], at: usize) -> bool
     if request::roles(s, at).0 == 0 {
         return false;
     }
-    if !request::privilege(s, at).full() {
+    if !request::full_privilege(s, at) {
         return false;
     }
     good_context(s, at + CONTEXT_AT)

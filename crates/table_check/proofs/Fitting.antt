@@ -21,7 +21,7 @@ use Rattle.word_laws.proofs.Tests.{both-first, both-second, allBelow-at, allBel
 use Rattle.format.specs.Block.{block}
 use Rattle.format.specs.Request.{Request, user, roles, operation, target, contextOf, levelType, levelValue, usedLevel, blankLevel, depthOf, goodContext, goodRequest}
 use Rattle.format.specs.Rule.{Rule, Level, ruleAt, goodMark, goodLevel, goodSteps, goodRule, blankLevel as blankRuleLevel}
-use Rattle.format.specs.Fits.{levelFits, fits}
+use Rattle.format.specs.Fits.{fitsAt, levelFits, fits}
 use Rattle.format.specs.Policy.{Policy, policyFault, policyOf, ruleCount}
 use Rattle.format.specs.Table.{goodMarks}
 use Rattle.format.specs.Place.{recordFrom}
@@ -145,13 +145,6 @@ front-used (suc n) d f h u = go (decLe d n) (λ k. front-used n d f k u) (λ k. 
     go (yes k) less all = omega (arith, less k)
     go (no k) less all = rw (u n (omega arith)) (omega (arith, all (omega arith)))
 
--- the request has at level i what the rule asks there; and at its first n levels
-abbrev fitsAt : Rule → Request → ℕ → Bool
-fitsAt r q i = levelFits (r .level i) (levelType (contextOf q) i) (levelValue (contextOf q) i)
-
-abbrev fitsBelow : Rule → Request → ℕ → Bool
-fitsBelow r q n = allBelow n (fitsAt r q)
-
 module _ (r : Rule) (good : goodRule r ≡ true) where
   depth-few : r .depth ≤ 4
   unfolding goodRule
@@ -167,7 +160,7 @@ module _ (r : Rule) (good : goodRule r ≡ true) where
 
   -- at a level of the rule, a word of that type is a used one
   fits-used : (q : Request) → goodContext (contextOf q) ≡ true
-      → fitsBelow r q (r .depth) ≡ true
+      → allBelow (r .depth) (fitsAt r q) ≡ true
       → (l : ℕ) → l < r .depth → usedLevel (contextOf q) l ≡ true
   unfolding goodContext blankLevel levelFits
   fits-used q context fit l h =
@@ -184,11 +177,11 @@ module _ (r : Rule) (good : goodRule r ≡ true) where
 
   -- so a good context fits where its levels do
   fits-levels : (q : Request) → goodContext (contextOf q) ≡ true
-      → fits r q ≡ fitsBelow r q (r .depth)
+      → fits r q ≡ allBelow (r .depth) (fitsAt r q)
   unfolding fits depthOf
-  fits-levels q context = go (fitsBelow r q (r .depth)) refl
+  fits-levels q context = go (allBelow (r .depth) (fitsAt r q)) refl
     where
-      go : (b : Bool) → fitsBelow r q (r .depth) ≡ b → leb (r .depth) (depthOf (contextOf q)) && b ≡ b
+      go : (b : Bool) → allBelow (r .depth) (fitsAt r q) ≡ b → leb (r .depth) (depthOf (contextOf q)) && b ≡ b
       go true e = rw (le-leb (r .depth) (depthOf (contextOf q)) (front-used 4 (r .depth) (usedLevel (contextOf q)) depth-few (fits-used q context e)))
       go false e = and-false (leb (r .depth) (depthOf (contextOf q)))
 

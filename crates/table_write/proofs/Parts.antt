@@ -40,13 +40,6 @@ module _ (s : List ℕ) (at n : ℕ) (vs : List ℕ) (sized : length vs ≡ n) (
 -- ---- a list that is made by index
 
 module _ {A : Type 0} where
-  -- one value more
-  pub tab-more : (f : ℕ → A) (k n : ℕ) → tab f k (suc n) ≡ tab f k n ++ (f (k + n) ∷ [])
-  unfolding tab
-  tab-more f k zero = ap {B = List A} (λ i. f i ∷ []) (omega arith)
-  tab-more f k (suc n) =
-      ap {B = List A} (λ r. f k ∷ r) (tab-more f (suc k) n ∙ ap {B = List A} (λ i. tab f (suc k) n ++ (f i ∷ [])) (omega arith))
-
   tab-drop : (f : ℕ → A) (k n i : ℕ) → drop i (tab f k n) ≡ tab f (k + i) (n - i)
   unfolding tab
   tab-drop f k n zero = let e : k + 0 ≡ k = omega arith in let d : n - 0 ≡ n = omega arith in rw (e, d)

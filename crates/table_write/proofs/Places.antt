@@ -26,7 +26,8 @@ use Rattle.format_laws.proofs.RecordImage.{Whole, record-of-image}
 use Rattle.format_laws.proofs.BlockImage.{noRecord, record-read}
 use Rattle.format_laws.proofs.TableImage.{chunk, few, image-block}
 use Rattle.table_write.proofs.Over.{length-over}
-use Rattle.table_write.proofs.Parts.{part-before, part-behind, part-here, tab-more, part-tab}
+use Rattle.word_laws.proofs.Lists.{tab-next}
+use Rattle.table_write.proofs.Parts.{part-before, part-behind, part-here, part-tab}
 
 -- ---- the places
 
@@ -155,7 +156,7 @@ module _ (s : List ℕ) (b : ℕ) (long : length s ≡ blockBytes * b) (j : ℕ)
   pub records-more : m < 4294967296 → recordsHere (recordPut s j q m) (j + 1) ≡ recordsHere s j ++ (record { request = q; marks = m } ∷ [])
   unfolding recordsHere
   records-more small =
-      rw (add-one j, tab-more (recordHere (recordPut s j q m)) 0 j, zero-add)
+      rw (tab-next (recordHere (recordPut s j q m)) j)
       (ap₂ {C = List Record} (λ rs r. rs ++ (r ∷ [])) (records-kept j (omega arith)) (here-put small))
 
   pub block-kept : (k : ℕ) → (k ≡ j / blockRecords → ⊥) → block (recordPut s j q m) k ≡ block s k

@@ -8,6 +8,7 @@ use lib.ListN.{length, getD}
 use lib.Dec.{eqb}
 use Rattle.words.specs.Lists.{keep, anyOf, anyBelow, sumBelow}
 use Rattle.words.specs.Bytes.{u16At, bit}
+use Rattle.format.specs.Layout.{tableBlocks, capacity, membersAt, exclusionBytes, memberBytes}
 use Rattle.format.specs.Request.{Request, roles}
 use Rattle.format.specs.Rule.{Exclusion}
 use Rattle.judge.specs.Tally.{does}
@@ -44,11 +45,15 @@ pub record TallyOf (x : Exclusion) (qs : List Request) (t : Tally) : Type 0 wher
   -- of privileges: the "times done" of each member
   pub done : (t .kind ≡ 1 → ⊥) → (k : ℕ) → k < 8 → getD (t .times) k 0 ≡ length (keep (does (x .member k)) qs)
 
+-- the most words of a past: two for each record of the largest table
+abbrev pub pastMost : ℕ
+pastMost = 2 * capacity tableBlocks
+
 -- ---- what the members count
 
 -- "Kind 1: how many member roles appear": of the n members of exclusion e in a block, those among these roles
 unfoldable pub rolesAmong : List ℕ → ℕ → ℕ → ℕ → ℕ
-rolesAmong b e n all = sumBelow n (λ k. cond (bit (u16At b (60 + 36 * e + 4 * k) - 1) all) 1 0)
+rolesAmong b e n all = sumBelow n (λ k. cond (bit (u16At b (membersAt + exclusionBytes * e + memberBytes * k) - 1) all) 1 0)
 
 -- the "times listed" of member k among the first n; and whether it repeats an earlier one
 unfoldable pub listed : List Packed → ℕ → ℕ → ℕ

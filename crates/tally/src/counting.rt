@@ -5,7 +5,7 @@ ghost use mathlib.Core.Bool.{cond};
 ghost use Prim.Native.Nat.{ℕ, _+_, _*_, _<_, _≤_};
 ghost use lib.ListN.{length};
 ghost use Rattle.words.specs.Bytes.{u16At};
-ghost use Rattle.format.specs.Layout.{blockBytes};
+ghost use Rattle.format.specs.Layout.{blockBytes, membersAt, exclusionBytes, memberBytes, highestRole};
 ghost use Rattle.tally.specs.Code.{rolesAmong, listed, repeated, memberCounts, membersCount};
 use fields::field::u16_at;
 use fields::layout::EXCLUSION_BYTES;
@@ -25,7 +25,7 @@ pub fn one_if(b: bool) -> u32
 // How many of an exclusion's n member roles are among these.
 pub fn count_roles(b: &[u8], e: usize, n: usize, roles: Roles) -> u32
     requires { ⌜ (length (now b) ≡ blockBytes) × (e < 8) × (n ≤ 8) ⌝ }
-    requires { ⌜ ((k : ℕ) → k < n → (1 ≤ u16At (now b) (60 + 36 * e + 4 * k)) × (u16At (now b) (60 + 36 * e + 4 * k) ≤ 32)) ⌝ }
+    requires { ⌜ ((k : ℕ) → k < n → (1 ≤ u16At (now b) (membersAt + exclusionBytes * e + memberBytes * k)) × (u16At (now b) (membersAt + exclusionBytes * e + memberBytes * k) ≤ highestRole)) ⌝ }
     ensures { λ r. ⌜ r ≡ rolesAmong (now (b .entry)) e n (roles .0) ⌝ }
 {
     let mut count = 0u32;

@@ -9,7 +9,7 @@ ghost use Rattle.format.specs.Request.{Request, operation, roles as rolesOf};
 ghost use Rattle.format.specs.Rule.{Exclusion, exclusionAt, goodExclusion};
 ghost use Rattle.judge.specs.Tally.{reached as reachedOf};
 ghost use Rattle.fields.specs.Code.{packedOf, doneBy};
-ghost use Rattle.tally.specs.Code.{TallyOf, pastWords};
+ghost use Rattle.tally.specs.Code.{TallyOf, pastWords, pastMost};
 use crate::counting::count_privileges;
 use crate::counting::count_roles;
 use crate::counting::one_if;
@@ -93,7 +93,7 @@ impl Tally {
 // The request would bring its user to m of exclusion e: the tally takes in the past of the rule one by one, and the request last.
 pub fn reaches(b: &[u8], e: usize, past: &[u32], q: &[u8]) -> bool
     requires { ⌜ (length (now b) ≡ blockBytes) × (e < 8) × (goodExclusion (exclusionAt (now b) e) ≡ true) ⌝ }
-    requires { ⌜ (length (now q) ≡ requestBytes) × (length (now past) ≤ 3840) ⌝ }
+    requires { ⌜ (length (now q) ≡ requestBytes) × (length (now past) ≤ pastMost) ⌝ }
     ensures { λ r. ⌜ ((qs : List Request) → now (past .entry) ≡ pastWords qs → ((j : ℕ) → j < length qs → operation (getD qs j []) < 65536) → r ≡ reachedOf (exclusionAt (now (b .entry)) e) (qs ++ (now (q .entry) ∷ []))) ⌝ }
 {
     let mut tally = Tally::of(b, e);

@@ -1,6 +1,6 @@
 // The trial run of document 01, from standard input to standard output.
-use console::session::trial;
 use libc::STDIN_FILENO;
+use trial_run::run::trial;
 
 fn main() {
     trial(STDIN_FILENO);

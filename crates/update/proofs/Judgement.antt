@@ -17,7 +17,7 @@ use Rattle.format.specs.Policy.{Policy}
 use Rattle.format.specs.Table.{Record, marked}
 use Rattle.judge.specs.NewTable.{ends, gives, recordOf, cleared, sweep, newTable}
 use Rattle.matching.specs.declared.masks.Each.{Each}
-use Rattle.matching.specs.Masks.{apartIn, apartBy}
+use Rattle.matching.specs.Masks.{apartIn, apartBy, togetherBy}
 use Rattle.clearing.specs.Cleared.{keptMarks, clearedBy, leftBy, afterBy}
 
 module _ (p : Policy) (q : Request) («open» : ℕ → Bool) where
@@ -35,7 +35,7 @@ module _ (p : Policy) (q : Request) («open» : ℕ → Bool) where
     keeps i = marked i r && not (ends p q «open» i && samePlace (p .rule i) q (r .request))
 
     kept-bit : (i : ℕ) → i < p .rules → bit i (keptMarks e q ending (r .request) (r .marks)) ≡ keeps i
-    unfolding keptMarks apartIn keeps
+    unfolding keptMarks togetherBy apartIn keeps
     kept-bit i h =
         bit-without i (r .marks) (ending - bitAnd ending (apartBy e q (r .request)))
         ∙ ap (λ b. marked i r && not b)

@@ -7,6 +7,7 @@ ghost use lib.Dec.{eqb};
 ghost use Rattle.words.specs.First.{first};
 ghost use Rattle.format.specs.Layout.{requestBytes, recordBytes, mostRules};
 ghost use Rattle.format.specs.Code.{faultOf};
+ghost use Rattle.tally.specs.Code.{pastMost};
 ghost use Rattle.verdict.specs.Code.{JudgingRules, ruleFails, failingOf, FoundAt};
 use fields::field::wide;
 use fields::layout::BLOCK_BYTES;
@@ -43,7 +44,7 @@ pub fn first_failing(
     past: &mut [u32],
 ) -> Failing
     requires { ⌜ JudgingRules (now policy) (judging .rules .0) ⌝ }
-    requires { ⌜ (length (now q) ≡ requestBytes) × (2 * length (now found) ≤ length (now past)) × (length (now past) ≤ 3840) ⌝ }
+    requires { ⌜ (length (now q) ≡ requestBytes) × (2 * length (now found) ≤ length (now past)) × (length (now past) ≤ pastMost) ⌝ }
     requires { ⌜ ((j : ℕ) → j < length (now found) → getD (now found) j 0 + recordBytes ≤ length (now table)) ⌝ }
     ensures { λ r. ⌜ (failingOf (now (policy .entry)) r ≡ first (ruleFails (now (policy .entry)) (judging .rules .0) (judging .each) (now (q .entry)) (now (table .entry)) (now (found .entry))) 0 mostRules) × FoundAt (now (policy .entry)) r ⌝ }
 {

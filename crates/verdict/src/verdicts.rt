@@ -5,7 +5,7 @@ ghost use Prim.Native.Nat.{ℕ, _+_, _<_, _≤_};
 ghost use mathlib.Core.Option.{none};
 ghost use lib.ListN.{length, getD};
 ghost use Rattle.words.specs.First.{first};
-ghost use Rattle.format.specs.Layout.{requestBytes, recordBytes, mostRules};
+ghost use Rattle.format.specs.Layout.{requestBytes, recordBytes, mostRules, tableBlocks, capacity};
 ghost use Rattle.format.specs.Policy.{policyFault, policyOf};
 ghost use Rattle.format.specs.Place.{recordsHere};
 ghost use Rattle.format.specs.Code.{faultOf};
@@ -14,12 +14,14 @@ ghost use Rattle.fields.specs.Code.{HasRoom};
 ghost use Rattle.policy_check.specs.Code.{CheckedIs};
 ghost use Rattle.matching.specs.Masks.{EachOf};
 ghost use Rattle.matching.specs.Sets.{MatchedIs};
-ghost use Rattle.verdict.specs.Code.{JudgingRules, ruleFails, VerdictIs};
+ghost use Rattle.verdict.specs.Code.{fewRecords, JudgingRules, ruleFails, VerdictIs};
 use crate::permits::permitted;
 use crate::search::Judging;
 use crate::search::fault_of;
 use crate::search::first_failing;
+use fields::layout::TABLE_BLOCKS;
 use fields::sets::RuleSet;
+use fields::tables::Blocks;
 use format::answer::Fault;
 use format::answer::Refusal;
 use history::finding::find;
@@ -29,6 +31,15 @@ use matching::rules::Effect;
 use matching::rules::Matched;
 use matching::rules::match_rules;
 use policy_check::policy::Checked;
+
+// The records of the largest table, and how many are few. A past has two words for each.
+const MOST: usize = Blocks::RECORDS * TABLE_BLOCKS;
+
+const MOST_WORDS: usize = 2 * MOST;
+
+const FEW: usize = 60;
+
+const FEW_WORDS: usize = 2 * FEW;
 
 // The verdict; with none against the request, what a grant ends and gives; and the masks by which its records are cleared.
 pub struct Verdict {
@@ -46,35 +57,35 @@ struct Asked {
 // The search, with room for the past of few records: most users have few that may count, and the room has to be made ready for each call.
 fn fault_few(policy: &[u8], judging: Judging, q: &[u8], table: &[u8], found: &[u16]) -> Fault
     requires { ⌜ JudgingRules (now policy) (judging .rules .0) ⌝ }
-    requires { ⌜ (length (now q) ≡ requestBytes) × (length (now found) ≤ 60) ⌝ }
+    requires { ⌜ (length (now q) ≡ requestBytes) × (length (now found) ≤ fewRecords) ⌝ }
     requires { ⌜ ((j : ℕ) → j < length (now found) → getD (now found) j 0 + recordBytes ≤ length (now table)) ⌝ }
     ensures { λ r. ⌜ faultOf r ≡ first (ruleFails (now (policy .entry)) (judging .rules .0) (judging .each) (now (q .entry)) (now (table .entry)) (now (found .entry))) 0 mostRules ⌝ }
 {
-    let mut past = [0u32; 120];
-    let failing = first_failing(policy, judging, q, table, found, &mut past[0..120]);
+    let mut past = [0u32; FEW_WORDS];
+    let failing = first_failing(policy, judging, q, table, found, &mut past[0..FEW_WORDS]);
     fault_of(policy, failing)
 }
 
 // The same with room for all the records of the largest table.
 fn fault_many(policy: &[u8], judging: Judging, q: &[u8], table: &[u8], found: &[u16]) -> Fault
     requires { ⌜ JudgingRules (now policy) (judging .rules .0) ⌝ }
-    requires { ⌜ (length (now q) ≡ requestBytes) × (length (now found) ≤ 1920) ⌝ }
+    requires { ⌜ (length (now q) ≡ requestBytes) × (length (now found) ≤ capacity tableBlocks) ⌝ }
     requires { ⌜ ((j : ℕ) → j < length (now found) → getD (now found) j 0 + recordBytes ≤ length (now table)) ⌝ }
     ensures { λ r. ⌜ faultOf r ≡ first (ruleFails (now (policy .entry)) (judging .rules .0) (judging .each) (now (q .entry)) (now (table .entry)) (now (found .entry))) 0 mostRules ⌝ }
 {
-    let mut past = [0u32; 3840];
-    let failing = first_failing(policy, judging, q, table, found, &mut past[0..3840]);
+    let mut past = [0u32; MOST_WORDS];
+    let failing = first_failing(policy, judging, q, table, found, &mut past[0..MOST_WORDS]);
     fault_of(policy, failing)
 }
 
 // The search, by how many records may count.
 fn search_fault(policy: &[u8], judging: Judging, q: &[u8], table: &[u8], found: &[u16]) -> Fault
     requires { ⌜ JudgingRules (now policy) (judging .rules .0) ⌝ }
-    requires { ⌜ (length (now q) ≡ requestBytes) × (length (now found) ≤ 1920) ⌝ }
+    requires { ⌜ (length (now q) ≡ requestBytes) × (length (now found) ≤ capacity tableBlocks) ⌝ }
     requires { ⌜ ((j : ℕ) → j < length (now found) → getD (now found) j 0 + recordBytes ≤ length (now table)) ⌝ }
     ensures { λ r. ⌜ faultOf r ≡ first (ruleFails (now (policy .entry)) (judging .rules .0) (judging .each) (now (q .entry)) (now (table .entry)) (now (found .entry))) 0 mostRules ⌝ }
 {
-    if found.len() <= 60 {
+    if found.len() <= FEW {
         return fault_few(policy, judging, q, table, found);
     }
     fault_many(policy, judging, q, table, found)
@@ -112,12 +123,12 @@ fn judged(
 fn judged_few(policy: &[u8], asked: Asked, q: &[u8], table: &[u8], n: usize) -> Verdict
     requires { ⌜ (policyFault (now policy) ≡ none) × (permittedBy (policyOf (now policy)) (now q) ≡ true) ⌝ }
     requires { ⌜ (MatchedIs (policyOf (now policy)) (now q) (asked .matched)) × (EachOf (policyOf (now policy)) (asked .each)) ⌝ }
-    requires { ⌜ (length (now q) ≡ requestBytes) × (n ≤ 60) ⌝ }
+    requires { ⌜ (length (now q) ≡ requestBytes) × (n ≤ fewRecords) ⌝ }
     requires { ⌜ HasRoom (now table) n ⌝ }
     ensures { λ r. ⌜ VerdictIs (policyOf (now (policy .entry))) (recordsHere (now (table .entry)) n) (now (q .entry)) r ⌝ }
 {
-    let mut found = [0u16; 60];
-    judged(policy, asked, q, table, n, &mut found[0..60])
+    let mut found = [0u16; FEW];
+    judged(policy, asked, q, table, n, &mut found[0..FEW])
 }
 
 // The same for any table.
@@ -128,8 +139,8 @@ fn judged_many(policy: &[u8], asked: Asked, q: &[u8], table: &[u8], n: usize) ->
     requires { ⌜ HasRoom (now table) n ⌝ }
     ensures { λ r. ⌜ VerdictIs (policyOf (now (policy .entry))) (recordsHere (now (table .entry)) n) (now (q .entry)) r ⌝ }
 {
-    let mut found = [0u16; 1920];
-    judged(policy, asked, q, table, n, &mut found[0..1920])
+    let mut found = [0u16; MOST];
+    judged(policy, asked, q, table, n, &mut found[0..MOST])
 }
 
 // What a grant does to marks where no rule judges.
@@ -169,7 +180,7 @@ pub fn verdict_of(policy: &[u8], checked: Checked, q: &[u8], table: &[u8], n: us
             each,
         };
     }
-    if n <= 60 {
+    if n <= FEW {
         return judged_few(policy, Asked { matched, each }, q, table, n);
     }
     judged_many(policy, Asked { matched, each }, q, table, n)

@@ -137,6 +137,38 @@ bits-of (suc n) x h =
 pub same-bits : (n x y : ℕ) → x < 2 ^ n → y < 2 ^ n → ((i : ℕ) → i < n → bit i x ≡ bit i y) → x ≡ y
 same-bits n x y hx hy e = bits-of n x hx ∙ bits-same n (λ i. bit i x) (λ i. bit i y) e ∙ sym (bits-of n y hy)
 
+below-power : (n : ℕ) → n < 2 ^ n
+below-power zero = omega arith
+below-power (suc n) = omega (arith, pow-suc 2 n, below-power n)
+
+pub all-bits : (x y : ℕ) → ((i : ℕ) → bit i x ≡ bit i y) → x ≡ y
+all-bits x y e =
+    same-bits (x + y) x y (omega (arith, below-power x, pow-mono {i = x} {j = x + y} (omega arith)))
+    (omega (arith, below-power y, pow-mono {i = y} {j = x + y} (omega arith))) (λ i h. e i)
+
+-- sets are joined in any order, and what is taken away may be taken away part by part
+pub or-assoc : (x y z : ℕ) → bitOr (bitOr x y) z ≡ bitOr x (bitOr y z)
+or-assoc x y z =
+    all-bits (bitOr (bitOr x y) z) (bitOr x (bitOr y z))
+    (λ i. rw (bit-or i (bitOr x y) z, bit-or i x y, bit-or i x (bitOr y z), bit-or i y z) (go (bit i x) (bit i y) (bit i z)))
+  where
+    go : (a b c : Bool) → (a || b) || c ≡ a || (b || c)
+    go true b c = refl
+    go false b c = refl
+
+pub without-or : (x y z : ℕ) → x - bitAnd x (bitOr y z) ≡ (x - bitAnd x z) - bitAnd (x - bitAnd x z) y
+without-or x y z =
+    all-bits (x - bitAnd x (bitOr y z)) ((x - bitAnd x z) - bitAnd (x - bitAnd x z) y)
+    (λ i.
+    rw (bit-without i x (bitOr y z), bit-or i y z, bit-without i (x - bitAnd x z) y, bit-without i x z) (go (bit i x) (bit i y) (bit i z)))
+  where
+    go : (a b c : Bool) → a && not (b || c) ≡ (a && not c) && not b
+    go true true true = refl
+    go true true false = refl
+    go true false true = refl
+    go true false false = refl
+    go false b c = refl
+
 -- ---- numbers that were made from bits
 
 pub bits-none : (n : ℕ) → bits n (λ i. false) ≡ 0
@@ -145,6 +177,12 @@ bits-none zero = refl
 bits-none (suc n) = rw (bits-none n)
 
 module _ (n : ℕ) (f : ℕ → Bool) where
+  -- those that any number has
+  pub bits-with : (x : ℕ) → bitAnd (bits n f) x ≡ bits n (λ i. f i && bit i x)
+  bits-with x =
+      same-bits n (bitAnd (bits n f) x) (bits n (λ i. f i && bit i x)) (omega (arith, and-le-l (bits n f) x, bits-below n f)) (bits-below n (λ i. f i && bit i x))
+      (λ i h. rw (bit-and i (bits n f) x, bit-bits n f i h, bit-bits n (λ j. f j && bit j x) i h))
+
   -- a test that does not look at the place
   pub bits-under : (b : Bool) → cond b 0 (bits n f) ≡ bits n (λ i. not b && f i)
   bits-under true = sym (bits-none n)
@@ -160,3 +198,8 @@ module _ (n : ℕ) (f g : ℕ → Bool) where
   bits-and =
       same-bits n (bitAnd (bits n f) (bits n g)) (bits n (λ i. f i && g i)) (and-lt n (bits n f) (bits n g) (bits-below n f) (bits-below n g)) (bits-below n (λ i. f i && g i))
       (λ i h. rw (bit-and i (bits n f) (bits n g), bit-bits n f i h, bit-bits n g i h, bit-bits n (λ j. f j && g j) i h))
+
+  pub bits-without : bits n f - bitAnd (bits n f) (bits n g) ≡ bits n (λ i. f i && not (g i))
+  bits-without =
+      same-bits n (bits n f - bitAnd (bits n f) (bits n g)) (bits n (λ i. f i && not (g i))) (omega (arith, bits-below n f)) (bits-below n (λ i. f i && not (g i)))
+      (λ i h. rw (bit-without i (bits n f) (bits n g), bit-bits n f i h, bit-bits n g i h, bit-bits n (λ j. f j && not (g j)) i h))

@@ -27,6 +27,10 @@ module _ {A : Type 0} where
       go true = refl
       go false = refl
 
+  pub keep-more : (t : A → Bool) (xs : List A) (x : A) → keep t (xs ++ (x ∷ [])) ≡ keep t xs ++ cond (t x) (x ∷ []) []
+  unfolding keep
+  keep-more t xs x = keep-append t xs (x ∷ [])
+
   -- keeping from what was kept is keeping by both tests
   pub keep-keep : (s t : A → Bool) (xs : List A) → keep t (keep s xs) ≡ keep (λ x. s x && t x) xs
   unfolding keep

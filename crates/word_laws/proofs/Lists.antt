@@ -2,6 +2,7 @@
 -- Assumes nothing.
 use Prim.Native.Nat.{ℕ, zero, suc, _+_, _*_, _≤_, _<_}
 use native.Mathlib.Nat.{mul-suc, mul-zero, add-comm, zero-add}
+use native.Mathlib.Numerals.{add-one}
 use native.Mathlib.Omega.{arith}
 use mathlib.Core.Path.{_≡_, refl, sym, ap, ap₂, _∙_}
 use mathlib.Core.List.{List, [], _∷_, _++_, flatten, map, append-assoc, append-nil}
@@ -35,6 +36,16 @@ module _ {A : Type 0} where
       ap₂ {C = List A} (λ x xs. x ∷ xs) (h k (omega arith) (omega arith)) (tab-cong f g (suc k) n (λ i lo hi. h i (omega arith) (omega arith)))
 
   -- the elements of a list, by index, are the list
+  -- one value more
+  pub tab-more : (f : ℕ → A) (k n : ℕ) → tab f k (suc n) ≡ tab f k n ++ (f (k + n) ∷ [])
+  unfolding tab
+  tab-more f k zero = ap {B = List A} (λ i. f i ∷ []) (omega arith)
+  tab-more f k (suc n) =
+      ap {B = List A} (λ r. f k ∷ r) (tab-more f (suc k) n ∙ ap {B = List A} (λ i. tab f (suc k) n ++ (f i ∷ [])) (omega arith))
+
+  pub tab-next : (f : ℕ → A) (k : ℕ) → tab f 0 (k + 1) ≡ tab f 0 k ++ (f k ∷ [])
+  tab-next f k = rw (add-one k, tab-more f 0 k, zero-add k)
+
   pub tab-getD : (l : List A) (d : A) (k n : ℕ) → k + n ≤ length l → tab (λ i. getD l i d) k n ≡ take n (drop k l)
   unfolding tab
   tab-getD l d k zero h = refl

@@ -11,7 +11,7 @@ use Rattle.words.specs.Bytes.{part}
 use Rattle.word_laws.proofs.Bytes.{Byte}
 use Rattle.format.specs.Rule.{ruleAt}
 use Rattle.matching.specs.Levels.{fitsBelow}
-use Rattle.matching.proofs.Levels.{type-word, value-word}
+use Rattle.request_check.proofs.RequestWords.{type-word, value-word}
 use Rattle.matching.proofs.fits.levels_fit.Statement.{statement}
 use Rattle.matching.proofs.fits.levels_fit.Tie as tie
 

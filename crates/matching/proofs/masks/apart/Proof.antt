@@ -10,45 +10,15 @@ use Rattle.matching.proofs.masks.apart.Tie as tie
 apart-at-requires : tie.Need-apart-at-requires
 apart-at-requires c κs = search needs
 
-apart-at-requires-2 : tie.Need-apart-at-requires-2
-apart-at-requires-2 c κs = search needs
+apart-within-requires : tie.Need-apart-within-requires
+apart-within-requires c κs = search needs
 
 or-requires : tie.Need-or-requires
 or-requires c κs = search needs
 
-apart-at-requires-3 : tie.Need-apart-at-requires-3
-apart-at-requires-3 c κs = search needs
-
-or-requires-2 : tie.Need-or-requires-2
-or-requires-2 c κs = search needs
-
-apart-at-requires-4 : tie.Need-apart-at-requires-4
-apart-at-requires-4 c κs = search needs
-
-or-requires-3 : tie.Need-or-requires-3
-or-requires-3 c κs = search needs
-
 returns : tie.Need-returns
 unfolding apartBy
-returns c =
-    let two = c .before .before .before .before in
-    c .or3 .ensures
-    ∙ ap₂ bitOr
-    (c .before .before .or2 .ensures
-    ∙ ap₂ bitOr
-    (two .or .ensures ∙ ap₂ bitOr (two .before .before .apart-at .ensures) (two .before .apart-at2 .ensures))
-    (c .before .before .before .apart-at3 .ensures))
-    (c .before .apart-at4 .ensures)
+returns c = c .or .ensures ∙ ap₂ bitOr (c .before .before .apart-at .ensures) (c .before .apart-within .ensures)
 
 pub apart-spec : {M : Type 1} → statement M
-apart-spec =
-    tie.close
-    (tie.spec
-    apart-at-requires
-    apart-at-requires-2
-    or-requires
-    apart-at-requires-3
-    or-requires-2
-    apart-at-requires-4
-    or-requires-3
-    returns)
+apart-spec = tie.close (tie.spec apart-at-requires apart-within-requires or-requires returns)

@@ -9,7 +9,7 @@ use borrow.Author.Needs.{needs}
 use Rattle.words.specs.Bytes.{part}
 use Rattle.format.specs.Layout.{requestBytes}
 use Rattle.format.specs.Request.{Request, user, roles, contextOf, goodContext, goodRequest}
-use Rattle.format.specs.Rule.{Privilege, fullPrivilege}
+use Rattle.format.specs.Rule.{fullPrivilege}
 use Rattle.fields.specs.Code.{doneBy}
 use Rattle.request_check.proofs.RequestWords.{request-parts, context-at}
 use Rattle.request_check.proofs.request.good_request.Statement.{statement}
@@ -56,24 +56,20 @@ returns-2 c =
     let one = c .before .before .before in
     no-roles (asked (call₁ one)) (some-user one) (sym (c .before .before .roles .ensures) ∙ c .if2 .taken)
 
-privilege-requires : tie.Need-privilege-requires
-privilege-requires c κs = search needs
-
 some-roles : (c : tie.Else2) → roles (asked (call₂ c)) ≡ 0 → ⊥
 some-roles c e = c .if2 .left (c .before .before .roles .ensures ∙ e)
 
-full-requires : tie.Need-full-requires
-full-requires c κs = search needs
+full-privilege-requires : tie.Need-full-privilege-requires
+full-privilege-requires c κs = search needs
 
--- what the call says of the privilege that was read
-full-is : (c : tie.After-full) → fullPrivilege (doneBy (asked (call₂ (c .before .before)))) ≡ c .full .result
-full-is c = sym (c .full .ensures ∙ ap (λ (p : Privilege). fullPrivilege p) (c .before .privilege .ensures))
+full-is : (c : tie.After-full-privilege) → fullPrivilege (doneBy (asked (call₂ (c .before)))) ≡ c .full-privilege .result
+full-is c = sym (c .full-privilege .ensures)
 
 returns-3 : tie.Need-returns-3
 returns-3 c =
-    let two = c .before .before .before in
+    let two = c .before .before in
     no-privilege (asked (call₂ two)) (some-user (two .before .before .before)) (some-roles two)
-    (full-is (c .before) ∙ not-true (c .before .full .result) (c .if3 .taken))
+    (full-is (c .before) ∙ not-true (c .before .full-privilege .result) (c .if3 .taken))
 
 add-good-context : tie.Need-add-good-context
 add-good-context c = search needs
@@ -84,12 +80,12 @@ good-context-requires c κs = search needs
 returns-4 : tie.Need-returns-4
 returns-4 c =
     let three = c .before in
-    let two = three .before .before .before in
+    let two = three .before .before in
     let a = call₂ two .args in
     c .good-context .ensures
     ∙ sym (ap (λ (t : Request). goodContext t) (context-at (a .s .now) (a .at)))
     ∙ the-rest (asked (call₂ two)) (some-user (two .before .before .before)) (some-roles two)
-    (full-is (three .before) ∙ not-false (three .before .full .result) (three .if3 .left))
+    (full-is (three .before) ∙ not-false (three .before .full-privilege .result) (three .if3 .left))
 
 pub good-request-spec : {M : Type 1} → statement M
 good-request-spec =
@@ -99,8 +95,7 @@ good-request-spec =
     returns
     roles-requires
     returns-2
-    privilege-requires
-    full-requires
+    full-privilege-requires
     returns-3
     add-good-context
     good-context-requires

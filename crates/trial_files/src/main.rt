@@ -1,6 +1,6 @@
 // Trial runs as data: for each file that an argument names, its name on a line of its own, then what the trial run of that file writes.
-use console::session::trial;
 use libc::STDOUT_FILENO;
+use trial_run::run::trial;
 
 // The trial run of the file that argument i names.
 fn run_file(i: usize) {

@@ -1,13 +1,13 @@
--- `trials::main` runs safely and ends: the arguments are as many as they are.
+-- `trial_files::main` runs safely and ends: the arguments are as many as they are.
 -- Assumes nothing.
 use Prim.Native.Nat.{_-_}
 use borrow.Author.Needs.{needs}
-use Rattle.trials.proofs.main.Statement.{statement}
-use Rattle.trials.proofs.main.Tie as tie
-use Rattle.trials.proofs.main.Reads as reads
-use Rattle.trials.proofs.main.Lts as lts
+use Rattle.trial_files.proofs.main.Statement.{statement}
+use Rattle.trial_files.proofs.main.Tie as tie
+use Rattle.trial_files.proofs.main.Reads as reads
+use Rattle.trial_files.proofs.main.Lts as lts
 use Rattle.os.proofs.arg_count.Reads as arg-count-reads
-use Rattle.trials.proofs.run_file.Reads as run-file-reads
+use Rattle.trial_files.proofs.run_file.Reads as run-file-reads
 
 abbrev Inv-loop : tie.InvT-loop
 Inv-loop n i₀ i = Unit {0}

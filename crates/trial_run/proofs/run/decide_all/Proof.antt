@@ -1,11 +1,11 @@
--- `console::session::decide_all` runs safely and ends: the ordinal grows to a bound, and the table keeps its length.
+-- `trial_run::run::decide_all` runs safely and ends: the ordinal grows to a bound, and the table keeps its length.
 -- Assumes nothing.
 use Prim.Native.Nat.{_-_}
 use mathlib.Core.Path.{_≡_}
 use lib.ListN.{length}
 use borrow.Author.Needs.{needs}
-use Rattle.console.proofs.session.decide_all.Statement.{statement}
-use Rattle.console.proofs.session.decide_all.Tie as tie
+use Rattle.trial_run.proofs.run.decide_all.Statement.{statement}
+use Rattle.trial_run.proofs.run.decide_all.Tie as tie
 
 abbrev Inv-loop : tie.InvT-loop
 Inv-loop input policy table₀ ordinal₀ table ordinal = length table ≡ length table₀
