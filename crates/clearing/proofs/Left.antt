@@ -14,7 +14,7 @@ use Rattle.word_laws.proofs.Keep.{keep-append, map-append}
 use Rattle.word_laws.proofs.Lists.{length-tab, tab-next}
 use Rattle.format.specs.Request.{Request}
 use Rattle.format.specs.Table.{Record, hasMark}
-use Rattle.format.specs.Place.{recordHere, recordsHere}
+use Rattle.format.specs.Records.{recordHere, recordsHere}
 use Rattle.judge.specs.NewTable.{sweep}
 use Rattle.matching.specs.declared.masks.Each.{Each}
 use Rattle.matching.specs.Masks.{apartBy, togetherBy}

@@ -14,12 +14,12 @@ use Rattle.format.specs.Layout.{blockBytes, blockRecords, capacity}
 use Rattle.format.specs.Request.{Request}
 use Rattle.format.specs.Block.{blocks, block}
 use Rattle.format.specs.Table.{Record}
-use Rattle.format.specs.Place.{recordHere, recordsHere}
+use Rattle.format.specs.Records.{recordHere, recordsHere}
 use Rattle.matching.specs.declared.masks.Each.{Each}
 use Rattle.table_write.specs.declared.blocks.BlockSet.{BlockSet}
 use Rattle.table_write.specs.Writing.{hasBlock, noBlock, KeptBut}
 use Rattle.table_write.proofs.BlockSets.{no-block, not-with}
-use Rattle.table_write.proofs.Places.{recordPut, length-request, here-whole, length-put, here-kept, records-more, block-kept}
+use Rattle.table_write.proofs.Records.{recordPut, length-request, here-whole, length-put, here-kept, records-more, block-kept}
 use Rattle.clearing.specs.Cleared.{keptMarks, clearedBy}
 use Rattle.clearing.proofs.Left.{records-none, records-one, same-records}
 

@@ -14,12 +14,12 @@ use Rattle.word_laws.proofs.Bytes.{Byte}
 use Rattle.format.specs.Layout.{blockBytes, blockRecords, capacity}
 use Rattle.format.specs.Block.{block}
 use Rattle.format.specs.Table.{Record}
-use Rattle.format.specs.Place.{recordHere, recordsHere}
+use Rattle.format.specs.Records.{recordHere, recordsHere}
 use Rattle.judge.specs.NewTable.{sweep}
 use Rattle.table_write.specs.declared.blocks.BlockSet.{BlockSet}
 use Rattle.table_write.specs.Writing.{hasBlock, countIn, KeptBut}
 use Rattle.table_write.proofs.BlockSets.{not-range}
-use Rattle.table_write.proofs.Places.{recordPut, length-request, here-whole, length-put, here-kept, records-more, block-kept}
+use Rattle.table_write.proofs.Records.{recordPut, length-request, here-whole, length-put, here-kept, records-more, block-kept}
 use Rattle.clearing.specs.Cleared.{AllMarked}
 use Rattle.clearing.proofs.Left.{records-none, records-one, length-here, sweep-none, sweep-one, sweep-more}
 

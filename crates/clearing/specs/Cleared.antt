@@ -6,7 +6,7 @@ use mathlib.Core.List.{List, [], _∷_, _++_, map}
 use lib.Bits.{bitAnd}
 use Rattle.format.specs.Request.{Request}
 use Rattle.format.specs.Table.{Record}
-use Rattle.format.specs.Place.{recordsHere}
+use Rattle.format.specs.Records.{recordsHere}
 use Rattle.judge.specs.NewTable.{sweep}
 use Rattle.matching.specs.declared.masks.Each.{Each}
 use Rattle.matching.specs.Masks.{togetherBy}

@@ -4,14 +4,14 @@ ghost use mathlib.Core.List.{map};
 ghost use Prim.Native.Nat.{_+_, _≤_};
 ghost use lib.ListN.{length};
 ghost use Rattle.format.specs.Layout.{requestBytes, recordBytes};
-ghost use Rattle.format.specs.Place.{recordFrom, recordsHere};
+ghost use Rattle.format.specs.Records.{recordFrom, recordsHere};
 ghost use Rattle.fields.specs.Code.{HasRoom};
 ghost use Rattle.table_write.specs.Writing.{noBlock, KeptBut};
 ghost use Rattle.clearing.specs.Cleared.{clearedBy};
 use fields::request;
 use fields::sets::RuleSet;
 use fields::tables::Blocks;
-use fields::tables::record_place;
+use fields::tables::record_start;
 use matching::masks::Each;
 use matching::masks::together;
 use table_write::blocks::BlockSet;
@@ -36,7 +36,7 @@ pub fn clear_marks(each: Each, ends: RuleSet, q: &[u8], table: &mut [u8], n: usi
         return changed;
     }
     for i in 0..n {
-        let at = record_place(i);
+        let at = record_start(i);
         let left = cleared_marks(each, ends, q, table, at);
         if left.0 == request::marks(table, at).0 {
             continue;

@@ -5,12 +5,12 @@ ghost use Prim.Native.Nat.{_<_, _≤_};
 ghost use lib.ListN.{length};
 ghost use lib.Dec.{leb};
 ghost use Rattle.format.specs.Layout.{requestBytes};
-ghost use Rattle.format.specs.Place.{recordHere, recordsHere};
+ghost use Rattle.format.specs.Records.{recordHere, recordsHere};
 ghost use Rattle.fields.specs.Code.{HasRoom};
 ghost use Rattle.clearing.specs.Cleared.{leftBy, afterBy, AllMarked};
 use crate::clearing::cleared_marks;
 use fields::sets::RuleSet;
-use fields::tables::record_place;
+use fields::tables::record_start;
 use matching::masks::Each;
 use matching::rules::Effect;
 
@@ -20,7 +20,7 @@ fn stays(each: Each, ends: RuleSet, q: &[u8], table: &[u8], n: usize, i: usize) 
     requires { ⌜ HasRoom (now table) n ⌝ }
     ensures { λ r. ⌜ (r ≡ length (leftBy each (now (q .entry)) (ends .0) (recordHere (now (table .entry)) i ∷ []))) × (r ≤ 1) ⌝ }
 {
-    if cleared_marks(each, ends, q, table, record_place(i)).is_empty() {
+    if cleared_marks(each, ends, q, table, record_start(i)).is_empty() {
         return 0;
     }
     1

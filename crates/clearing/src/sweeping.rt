@@ -2,14 +2,14 @@
 ghost use mathlib.Core.Path.{_≡_};
 ghost use Prim.Native.Nat.{_≤_};
 ghost use lib.ListN.{length};
-ghost use Rattle.format.specs.Place.{recordsHere};
+ghost use Rattle.format.specs.Records.{recordsHere};
 ghost use Rattle.judge.specs.NewTable.{sweep as sweepOf};
 ghost use Rattle.fields.specs.Code.{HasRoom};
 ghost use Rattle.table_write.specs.Writing.{KeptBut};
 ghost use Rattle.clearing.specs.Cleared.{AllMarked};
 use fields::request;
 use fields::tables::Blocks;
-use fields::tables::record_place;
+use fields::tables::record_start;
 use table_write::blocks::BlockSet;
 use table_write::write::move_record;
 
@@ -25,7 +25,7 @@ fn first_unmarked(table: &[u8], n: usize) -> usize
     ensures { λ r. ⌜ (r ≤ n) × (AllMarked (now (table .entry)) r) ⌝ }
 {
     for i in 0..n {
-        if request::marks(table, record_place(i)).is_empty() {
+        if request::marks(table, record_start(i)).is_empty() {
             return i;
         }
     }
@@ -43,12 +43,12 @@ pub fn sweep(table: &mut [u8], n: usize, changed: BlockSet) -> Swept
     }
     let mut held = first;
     for i in first..n {
-        let from = record_place(i);
+        let from = record_start(i);
         let marks = request::marks(table, from);
         if marks.is_empty() {
             continue;
         }
-        move_record(table, from, record_place(held), marks);
+        move_record(table, from, record_start(held), marks);
         held = held + 1;
     }
     let end = (n + Blocks::RECORDS - 1) / Blocks::RECORDS;

@@ -16,7 +16,7 @@ use Rattle.format.specs.Block.{blocks}
 use Rattle.format.specs.Request.{requestFault}
 use Rattle.format.specs.Policy.{policyFault, policyOf}
 use Rattle.format.specs.Table.{Record, tableFault, recordsOf}
-use Rattle.format.specs.Place.{recordsHere}
+use Rattle.format.specs.Records.{recordsHere}
 use Rattle.judge.specs.Verdict.{verdict}
 use Rattle.judge.specs.NewTable.{openIn, pastIn, tableAfter}
 use Rattle.judge.specs.Decide.{decide}

@@ -17,7 +17,7 @@ module _ (b : List ℕ) where
   blank-privilege : (at : ℕ) → blankPrivilege (privilegeAt b at) ≡ zeroFrom b at 4
   blank-privilege at = rw (zero-field b at, zero-field b (at + 2), ← zeroFrom-add b at 2 2)
 
-  -- the members from a place on are blank
+  -- the members from a byte on are blank
   blank-from : (at n : ℕ) → allBelow n (λ i. blankPrivilege (privilegeAt b (at + 4 * i))) ≡ zeroFrom b at (4 * n)
   blank-from at n =
       allBelow-same n (λ i. blankPrivilege (privilegeAt b (at + 4 * i))) (λ i. zeroFrom b (at + 4 * i) 4) (λ i h. blank-privilege (at + 4 * i))

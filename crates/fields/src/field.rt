@@ -15,7 +15,7 @@ pub fn wide(x: u8) -> u32
     x as u32
 }
 
-// The field of 2 bytes at a place.
+// The field of 2 bytes at a byte.
 pub fn u16_at(s: &[u8], at: usize) -> u32
     requires { ⌜ at + 1 < length (now s) ⌝ }
     ensures { λ r. ⌜ (r ≡ u16At (now (s .entry)) at) × (r < 65536) ⌝ }
@@ -23,7 +23,7 @@ pub fn u16_at(s: &[u8], at: usize) -> u32
     wide(s[at]) + 256 * wide(s[at + 1])
 }
 
-// The field of 4 bytes at a place.
+// The field of 4 bytes at a byte.
 pub fn u32_at(s: &[u8], at: usize) -> u32
     requires { ⌜ at + 3 < length (now s) ⌝ }
     ensures { λ r. ⌜ r ≡ u32At (now (s .entry)) at ⌝ }
@@ -31,7 +31,7 @@ pub fn u32_at(s: &[u8], at: usize) -> u32
     wide(s[at]) + 256 * wide(s[at + 1]) + 65536 * wide(s[at + 2]) + 16777216 * wide(s[at + 3])
 }
 
-// The n bytes from a place on are zero. No early exit: the loop is one that the compiler turns into wide compares.
+// The n bytes from a byte on are zero. No early exit: the loop is one that the compiler turns into wide compares.
 pub fn zero_from(s: &[u8], at: usize, n: usize) -> bool
     requires { ⌜ at + n ≤ length (now s) ⌝ }
     ensures { λ r. ⌜ r ≡ zeroFrom (now (s .entry)) at n ⌝ }
@@ -43,7 +43,7 @@ pub fn zero_from(s: &[u8], at: usize, n: usize) -> bool
     good
 }
 
-// Puts a number's 2 bytes at a place.
+// Puts a number's 2 bytes at a byte.
 pub fn put_u16(s: &mut [u8], at: usize, x: u32)
     requires { ⌜ at + 1 < length (now s) ⌝ }
     ensures { λ r. ⌜ now (s .exit) ≡ sets (now (s .entry)) at (bytes2 x) ⌝ }
@@ -52,7 +52,7 @@ pub fn put_u16(s: &mut [u8], at: usize, x: u32)
     s[at + 1] = (x / 256 % 256) as u8;
 }
 
-// Puts a number's 4 bytes at a place.
+// Puts a number's 4 bytes at a byte.
 pub fn put_u32(s: &mut [u8], at: usize, x: u32)
     requires { ⌜ at + 3 < length (now s) ⌝ }
     ensures { λ r. ⌜ now (s .exit) ≡ sets (now (s .entry)) at (bytes4 x) ⌝ }

@@ -1,4 +1,4 @@
-// The sizes and places of document 01's images, each named once. format/specs/Layout.antt has the same for the definitions.
+// The sizes and offsets of document 01's images, each named once. format/specs/Layout.antt has the same for the definitions.
 
 // ---- blocks
 

@@ -6,7 +6,7 @@ ghost use Rattle.words.specs.Bytes.{part, u32At};
 ghost use Rattle.format.specs.Layout.{requestBytes, recordBytes};
 ghost use Rattle.format.specs.Request.{user as userOf, roles as rolesOf};
 ghost use Rattle.format.specs.Rule.{fullPrivilege};
-ghost use Rattle.format.specs.Place.{recordFrom};
+ghost use Rattle.format.specs.Records.{recordFrom};
 ghost use Rattle.fields.specs.Code.{privilegeOf, doneBy};
 use crate::field::u32_at;
 use crate::layout::MARKS_AT;

@@ -3,7 +3,7 @@ ghost use mathlib.Core.Path.{_≡_};
 ghost use Prim.Native.Nat.{_≤_};
 ghost use Rattle.format.specs.Layout.{capacity as capacityOf, tableBlocks};
 ghost use Rattle.format.specs.Block.{goodLength};
-ghost use Rattle.format.specs.Place.{recordPlace};
+ghost use Rattle.format.specs.Records.{recordStart};
 use crate::layout::BLOCK_BYTES;
 use crate::layout::RECORD_BYTES;
 use crate::layout::RECORDS_AT;
@@ -20,7 +20,7 @@ pub fn good_length(s: &[u8], most: usize) -> bool
 pub struct Blocks(pub usize);
 
 impl Blocks {
-    // The records that a block has places for.
+    // The records that a block can have.
     pub const RECORDS: usize = 15;
 
     // "A table of B blocks holds at most 15 times B records."
@@ -33,9 +33,9 @@ impl Blocks {
 }
 
 // The byte at which record i begins, from 0.
-pub fn record_place(i: usize) -> usize
+pub fn record_start(i: usize) -> usize
     requires { ⌜ i ≤ capacityOf tableBlocks ⌝ }
-    ensures { λ r. ⌜ r ≡ recordPlace i ⌝ }
+    ensures { λ r. ⌜ r ≡ recordStart i ⌝ }
 {
     BLOCK_BYTES * (i / Blocks::RECORDS) + RECORDS_AT + RECORD_BYTES * (i % Blocks::RECORDS)
 }

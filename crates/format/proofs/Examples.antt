@@ -27,7 +27,7 @@ use Rattle.format.specs.Policy.{Policy, permissionAt, entries, goodPermi
 use Rattle.format.specs.Policy.{policyBlockFault, policyFault, ruleCount, permissionsAt, policyOf, stamp}
 use Rattle.format.specs.Table.{count, goodMarks, goodRecord, recordAt, gap, goodTableHeader, goodStamp, tableBlockFault, tableLengthFault}
 use Rattle.format.specs.Table.{tableFault, recordsOf, recordImage, blockImage, tableImage, freshTable}
-use Rattle.format.specs.Place.{recordPlace, recordsHere}
+use Rattle.format.specs.Records.{recordStart, recordsHere}
 use Rattle.format.specs.Calls.{checkPolicy, checkTable, makeTable}
 
 -- what these examples compute with
@@ -131,19 +131,19 @@ unfolding opened
 other-places = refl
 
 -- "15 records from byte 24": the second record of a block (56-87), by its block and by its place in a table
-pub record-places :
+pub record-starts :
     (recordAt places 1 ∷ recordsHere places 2)
     ≡ record { request = part places 56 28; marks = four 84 }
     ∷ record { request = part places 24 28; marks = four 52 }
     ∷ record { request = part places 56 28; marks = four 84 }
     ∷ []
 unfolding opened
-record-places = refl
+record-starts = refl
 
 -- where the first, the 15th, the 16th and the 17th record of a table begin
-pub record-places-in-turn : map recordPlace (0 ∷ 14 ∷ 15 ∷ 16 ∷ []) ≡ 24 ∷ 472 ∷ 536 ∷ 568 ∷ []
+pub record-starts-in-turn : map recordStart (0 ∷ 14 ∷ 15 ∷ 16 ∷ []) ≡ 24 ∷ 472 ∷ 536 ∷ 568 ∷ []
 unfolding opened
-record-places-in-turn = refl
+record-starts-in-turn = refl
 
 -- ---- rules
 

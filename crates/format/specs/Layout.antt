@@ -1,4 +1,4 @@
--- The sizes and places of the formats, each said once. A place is the number of a byte in its block, or in its request, from 0.
+-- The sizes and offsets of the formats, each said once. An offset is the number of a byte in its block, or in its request, from 0.
 -- Assumes nothing.
 use Prim.Native.Nat.{ℕ, _*_}
 

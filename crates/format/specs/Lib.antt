@@ -7,5 +7,5 @@ pub mod Fits
 pub mod Policy
 pub mod Table
 pub mod Calls
-pub mod Place
+pub mod Records
 pub mod Code

@@ -61,7 +61,7 @@ recordAt b i =
 unfoldable pub gap : List ℕ → ℕ → Bool
 gap s k = not (eqb (count (block s k)) 0) && anyBelow k (λ j. ltb (count (block s j)) blockRecords)
 
--- "13: kind, number, total, count, gap, spare bytes": the spare ones are bytes 10-15 and the places with no record
+-- "13: kind, number, total, count, gap, spare bytes": the spare ones are bytes 10-15 and those where no record stands
 unfoldable pub goodTableHeader : List ℕ → ℕ → Bool
 goodTableHeader s k =
     eqb (kind (block s k)) tableKind

@@ -81,9 +81,9 @@ module _ (t : Sums) (b k : ℕ) (rs : List Record) (few : length rs ≤ blockRec
   pub check-read : goodCheck (blockImage t b k rs) ≡ true
   check-read = rw shape (sealed-passes (body t b k rs) length-body)
 
-  pub places-read : zeroFrom (blockImage t b k rs) (recordsAt + recordBytes * length rs) (recordBytes * (blockRecords - length rs)) ≡ true
+  pub unused-read : zeroFrom (blockImage t b k rs) (recordsAt + recordBytes * length rs) (recordBytes * (blockRecords - length rs)) ≡ true
   unfolding blockImage sealed sumBytes
-  places-read =
+  unused-read =
       zeros-read (header t b k (length rs) ++ images rs) (sumBytes (sums (words (body t b k rs)))) (recordsAt + recordBytes * length rs)
       (recordBytes * (blockRecords - length rs)) (rw (length-append, length-images rs ws) (omega arith))
 

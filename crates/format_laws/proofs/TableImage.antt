@@ -25,7 +25,7 @@ use Rattle.format.specs.Policy.{Policy, policyOf, stamp}
 use Rattle.format.specs.Layout.{blockBytes, blockRecords, capacity, tableBlocks}
 use Rattle.format.specs.Block.{blocks, block, goodLength}
 use Rattle.format.specs.Table.{Record, recordAt, count, blockImage, tableImage, recordsOf, gap, goodRecord, goodTableHeader, tableBlockFault, tableLengthFault, tableFault}
-use Rattle.format_laws.proofs.BlockImage.{recordsIn, block-length, records-read, kind-read, number-read, total-read, count-read, spare-read, places-read, stamp-read, check-read, record-read, noRecord}
+use Rattle.format_laws.proofs.BlockImage.{recordsIn, block-length, records-read, kind-read, number-read, total-read, count-read, spare-read, unused-read, stamp-read, check-read, record-read, noRecord}
 pub use Rattle.format_laws.proofs.RecordImage.{Whole}
 
 -- the records of block k
@@ -93,7 +93,7 @@ module _ (t : Sums) (b : ℕ) (rs : List Record) (ws : Every Whole rs) where
   header-passes k h small =
       let rs′ : List Record = chunk rs k in
       rw (no-gap k h, image-block k h, kind-read t b k rs′, number-read t b k rs′ (omega arith), total-read t b k rs′ (omega arith), image-blocks)
-      (rw (count-read t b k rs′ (few rs k), spare-read t b k rs′, places-read t b k rs′ (few rs k) (whole k))
+      (rw (count-read t b k rs′ (few rs k), spare-read t b k rs′, unused-read t b k rs′ (few rs k) (whole k))
       (rw (eq-eqb k k refl, eq-eqb b b refl, le-leb (length rs′) blockRecords (few rs k))))
 
   module _ (p : Policy) (good : Every (λ r. goodRecord p r ≡ true) rs) where

@@ -26,7 +26,7 @@ use Rattle.format.specs.Rule.{ruleAt}
 use Rattle.format.specs.Fits.{fits, samePlace}
 use Rattle.format.specs.Policy.{policyFault, policyOf, ruleCount}
 use Rattle.format.specs.Table.{Record, marked}
-use Rattle.format.specs.Place.{recordPlace, recordFrom, recordHere, recordsHere}
+use Rattle.format.specs.Records.{recordStart, recordFrom, recordHere, recordsHere}
 use Rattle.judge.specs.Tally.{sameUser}
 use Rattle.judge.specs.Verdict.{judges}
 use Rattle.judge.specs.NewTable.{standsIn, openIn, pastIn}
@@ -36,7 +36,7 @@ use Rattle.matching.specs.Masks.{EachOf, apartIn, apartBy, togetherBy}
 use Rattle.matching.specs.Sets.{fittingIn, judgingIn}
 use Rattle.matching.proofs.Apart.{apart-is}
 use Rattle.history.specs.Code.{sharedBy, openBy, mayCount, foundIn, standsBy, pastBy}
-use Rattle.history.proofs.Turns.{place-inside}
+use Rattle.history.proofs.Turns.{record-inside}
 
 -- under an accepted policy, for the rules that the request fits
 module _
@@ -119,17 +119,17 @@ module _
       → pastBy e q i s (foundIn e fitting q s n) ≡ keep (sameUser (user q)) (pastIn (policyOf policy) (recordsHere s n) q i)
   unfolding pastBy foundIn pastIn recordsHere
   past-is i f s n =
-      ap (map (λ at. part s at requestBytes)) (keep-keep (λ at. mayCount e fitting q (recordFrom s at)) (λ at. standsBy e q i (recordFrom s at)) (tab recordPlace 0 n) ∙ same)
-      ∙ sym (map-map (recordFrom s) (λ r. r .request) (keep (λ at. both (recordFrom s at)) (tab recordPlace 0 n)))
-      ∙ ap (map (λ (r : Record). r .request)) (sym (keep-map (recordFrom s) both (tab recordPlace 0 n)) ∙ ap (keep both) (map-tab (recordFrom s) recordPlace 0 n))
+      ap (map (λ at. part s at requestBytes)) (keep-keep (λ at. mayCount e fitting q (recordFrom s at)) (λ at. standsBy e q i (recordFrom s at)) (tab recordStart 0 n) ∙ same)
+      ∙ sym (map-map (recordFrom s) (λ r. r .request) (keep (λ at. both (recordFrom s at)) (tab recordStart 0 n)))
+      ∙ ap (map (λ (r : Record). r .request)) (sym (keep-map (recordFrom s) both (tab recordStart 0 n)) ∙ ap (keep both) (map-tab (recordFrom s) recordStart 0 n))
       ∙ sym (keep-map (λ (r : Record). r .request) (sameUser (user q)) (keep (standsIn (policyOf policy) q i) (tab (recordHere s) 0 n))
       ∙ ap (map (λ (r : Record). r .request)) (keep-keep (standsIn (policyOf policy) q i) (λ r. sameUser (user q) (r .request)) (tab (recordHere s) 0 n)))
     where
       both : Record → Bool
       both r = standsIn (policyOf policy) q i r && sameUser (user q) (r .request)
 
-      same : keep (λ at. mayCount e fitting q (recordFrom s at) && standsBy e q i (recordFrom s at)) (tab recordPlace 0 n) ≡ keep (λ at. both (recordFrom s at)) (tab recordPlace 0 n)
-      same = keep-same _ _ (every-all _ (λ at. counts-is i f (recordFrom s at)) (tab recordPlace 0 n))
+      same : keep (λ at. mayCount e fitting q (recordFrom s at) && standsBy e q i (recordFrom s at)) (tab recordStart 0 n) ≡ keep (λ at. both (recordFrom s at)) (tab recordStart 0 n)
+      same = keep-same _ _ (every-all _ (λ at. counts-is i f (recordFrom s at)) (tab recordStart 0 n))
 
 -- ---- of any records found
 
@@ -156,7 +156,7 @@ pub found-inside :
     → (j : ℕ) → j < length (foundIn e rules q s n) → getD (foundIn e rules q s n) j 0 + recordBytes ≤ length s
 unfolding foundIn
 found-inside e rules q s n room j h =
-    every-getD 0 j (every-keep Inside (λ at. mayCount e rules q (recordFrom s at)) (every-tab recordPlace 0 n (λ i l m. place-inside s n room i (omega arith)))) h
+    every-getD 0 j (every-keep Inside (λ at. mayCount e rules q (recordFrom s at)) (every-tab recordStart 0 n (λ i l m. record-inside s n room i (omega arith)))) h
   where
     Inside : ℕ → Type 0
     Inside at = at + recordBytes ≤ length s

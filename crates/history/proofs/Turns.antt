@@ -20,7 +20,7 @@ use Rattle.word_laws.proofs.Lists.{tab-next}
 use Rattle.format.specs.Layout.{requestBytes, recordBytes}
 use Rattle.format.specs.Request.{Request, user, roles}
 use Rattle.format.specs.Table.{Record, marked}
-use Rattle.format.specs.Place.{recordPlace, recordFrom, recordHere, recordsHere}
+use Rattle.format.specs.Records.{recordStart, recordFrom, recordHere, recordsHere}
 use Rattle.judge.specs.Tally.{sameUser}
 use Rattle.fields.specs.Code.{HasRoom, doneBy, packedOf}
 use Rattle.matching.specs.declared.masks.Each.{Each}
@@ -34,11 +34,11 @@ module _ (s : List ℕ) (n : ℕ) (room : HasRoom s n) where
   pub room-few : n ≤ 1920
   room-few = omega (arith, room .most, room .few)
 
-  pub place-inside : (k : ℕ) → k < n → recordPlace k + recordBytes ≤ length s
-  place-inside k h = omega (arith, room .whole, room .most, room .few)
+  pub record-inside : (k : ℕ) → k < n → recordStart k + recordBytes ≤ length s
+  record-inside k h = omega (arith, room .whole, room .most, room .few)
 
-  pub place-few : (k : ℕ) → k < n → recordPlace k < 65536
-  place-few k h = omega (arith, room .whole, room .most, room .few)
+  pub start-few : (k : ℕ) → k < n → recordStart k < 65536
+  start-few k h = omega (arith, room .whole, room .most, room .few)
 
 -- ---- a record more
 
@@ -49,7 +49,7 @@ module _ (e : Each) (rules : ℕ) (q : Request) where
   open-snoc (x ∷ rs) r = rw (open-snoc rs r) (sym (or-assoc (sharedBy e rules q x) (openBy e rules q rs) (sharedBy e rules q r)))
 
   -- record k, which begins at a byte
-  module _ (s : List ℕ) (k at : ℕ) (here : at ≡ recordPlace k) where
+  module _ (s : List ℕ) (k at : ℕ) (here : at ≡ recordStart k) where
     open-more :
         {x y : ℕ} → x ≡ openBy e rules q (recordsHere s k) → y ≡ sharedBy e rules q (recordFrom s at) → bitOr x y ≡ openBy e rules q (recordsHere s (k + 1))
     unfolding recordsHere
@@ -61,8 +61,8 @@ module _ (e : Each) (rules : ℕ) (q : Request) where
     found-more : foundIn e rules q s (k + 1) ≡ foundIn e rules q s k ++ cond (mayCount e rules q (recordFrom s at)) (at ∷ []) []
     unfolding foundIn
     found-more =
-        ap (keep (λ i. mayCount e rules q (recordFrom s i))) (tab-next recordPlace k ∙ ap (λ (i : ℕ). tab recordPlace 0 k ++ (i ∷ [])) (sym here))
-        ∙ keep-more (λ i. mayCount e rules q (recordFrom s i)) (tab recordPlace 0 k) at
+        ap (keep (λ i. mayCount e rules q (recordFrom s i))) (tab-next recordStart k ∙ ap (λ (i : ℕ). tab recordStart 0 k ++ (i ∷ [])) (sym here))
+        ∙ keep-more (λ i. mayCount e rules q (recordFrom s i)) (tab recordStart 0 k) at
 
     -- whether it may count
     may-count :
@@ -86,7 +86,7 @@ module _ (e : Each) (rules : ℕ) (q : Request) (s : List ℕ) where
   pass-start l = record { few = omega arith; sized = refl; opens = refl; founds = refl }
 
   module _
-      {len k at y : ℕ} (here : at ≡ recordPlace k) (shared : y ≡ sharedBy e rules q (recordFrom s at)) {x c : ℕ} {l : List ℕ}
+      {len k at y : ℕ} (here : at ≡ recordStart k) (shared : y ≡ sharedBy e rules q (recordFrom s at)) {x c : ℕ} {l : List ℕ}
       (p : Passed e rules q s len k x c l) where
     same-found : mayCount e rules q (recordFrom s at) ≡ false → take c l ≡ foundIn e rules q s (k + 1)
     same-found g = p .founds ∙ sym (found-more e rules q s k at here ∙ rw g (append-nil (foundIn e rules q s k)))

@@ -10,7 +10,7 @@ use Rattle.words.specs.Bytes.{part, bit}
 use Rattle.format.specs.Layout.{requestBytes}
 use Rattle.format.specs.Request.{Request, user}
 use Rattle.format.specs.Table.{Record, marked}
-use Rattle.format.specs.Place.{recordPlace, recordFrom}
+use Rattle.format.specs.Records.{recordStart, recordFrom}
 use Rattle.judge.specs.Tally.{sameUser}
 use Rattle.matching.specs.declared.masks.Each.{Each}
 use Rattle.matching.specs.Masks.{apartBy, togetherBy}
@@ -29,7 +29,7 @@ unfoldable pub mayCount : Each → ℕ → Request → Record → Bool
 mayCount e rules q r = not (eqb (sharedBy e rules q r) 0) && sameUser (user q) (r .request)
 
 unfoldable pub foundIn : Each → ℕ → Request → List ℕ → ℕ → List ℕ
-foundIn e rules q s n = keep (λ at. mayCount e rules q (recordFrom s at)) (tab recordPlace 0 n)
+foundIn e rules q s n = keep (λ at. mayCount e rules q (recordFrom s at)) (tab recordStart 0 n)
 
 -- a record is marked for the rule of index i, in the request's run place
 unfoldable pub standsBy : Each → Request → ℕ → Record → Bool

@@ -4,14 +4,14 @@ ghost use Prim.Native.Nat.{_+_, _≤_};
 ghost use lib.ListN.{length, take};
 ghost use Rattle.words.specs.Bytes.{part};
 ghost use Rattle.format.specs.Layout.{requestBytes, recordBytes};
-ghost use Rattle.format.specs.Place.{recordFrom, recordsHere};
+ghost use Rattle.format.specs.Records.{recordFrom, recordsHere};
 ghost use Rattle.judge.specs.Tally.{sameUser};
 ghost use Rattle.fields.specs.Code.{HasRoom};
 ghost use Rattle.history.specs.Code.{sharedBy, openBy, foundIn};
 use fields::number::User;
 use fields::request;
 use fields::sets::RuleSet;
-use fields::tables::record_place;
+use fields::tables::record_start;
 use matching::masks::Each;
 use matching::masks::together;
 
@@ -55,7 +55,7 @@ pub fn find(
     let mut open = RuleSet(0);
     let mut count = 0usize;
     for k in 0..n {
-        let at = record_place(k);
+        let at = record_start(k);
         let shared = shared_at(each, fitting, q, table, at);
         if shared.is_empty() {
             continue;

@@ -3,7 +3,7 @@ ghost use mathlib.Core.Path.{_≡_};
 ghost use Prim.Native.Nat.{ℕ, _+_, _*_, _<_, _≤_};
 ghost use lib.ListN.{length, take, getD};
 ghost use Rattle.format.specs.Layout.{requestBytes, recordBytes};
-ghost use Rattle.format.specs.Place.{recordFrom};
+ghost use Rattle.format.specs.Records.{recordFrom};
 ghost use Rattle.tally.specs.Code.{pastWords};
 ghost use Rattle.history.specs.Code.{standsBy, pastBy};
 use fields::request;

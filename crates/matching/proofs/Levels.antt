@@ -17,7 +17,7 @@ use Rattle.format.specs.Fits.{placeValue, place, samePlace}
 use Rattle.matching.specs.Levels.{sameAt}
 use Rattle.request_check.proofs.RequestWords.{context-at}
 
--- ---- the levels of a request at a place
+-- ---- the levels of a request at a byte
 
 module _ (s : List ℕ) (at i : ℕ) (four : i < 4) where
   pub value-at : levelValue (contextOf (part s at 28)) i ≡ u16At s (at + 14 + 4 * i)

@@ -66,7 +66,7 @@ pub fn each_of(policy: &[u8], checked: Checked) -> Each
     }
 }
 
-// The rules of a mask, if the request q and the one at a place differ in value at level l.
+// The rules of a mask, if the request q and the one at a byte differ in value at level l.
 fn apart_at(q: &[u8], s: &[u8], at: usize, l: usize, mask: RuleSet) -> RuleSet
     requires { ⌜ (length (now q) ≡ requestBytes) × ((at + requestBytes ≤ length (now s)) × (l < 4)) ⌝ }
     ensures { λ r. ⌜ r .0 ≡ apartAt (now (q .entry)) (part (now (s .entry)) at requestBytes) l (mask .0) ⌝ }
@@ -90,7 +90,7 @@ fn apart_within(each: Each, q: &[u8], s: &[u8], at: usize) -> RuleSet
         .or(apart_at(q, s, at, 3, each.fourth))
 }
 
-// Of these rules, those under which the request q and the one at a place share a run place. The levels behind the first come first: a job
+// Of these rules, those under which the request q and the one at a byte share a run place. The levels behind the first come first: a job
 // tells more requests apart than its depot.
 pub fn together(each: Each, rules: RuleSet, q: &[u8], s: &[u8], at: usize) -> RuleSet
     requires { ⌜ (length (now q) ≡ requestBytes) × (at + requestBytes ≤ length (now s)) ⌝ }
@@ -103,7 +103,7 @@ pub fn together(each: Each, rules: RuleSet, q: &[u8], s: &[u8], at: usize) -> Ru
     near.without(apart_at(q, s, at, 0, each.first))
 }
 
-// The rules under which the request q and the one at a place have different run places.
+// The rules under which the request q and the one at a byte have different run places.
 pub fn apart(each: Each, q: &[u8], s: &[u8], at: usize) -> RuleSet
     requires { ⌜ (length (now q) ≡ requestBytes) × (at + requestBytes ≤ length (now s)) ⌝ }
     ensures { λ r. ⌜ r .0 ≡ apartBy each (now (q .entry)) (part (now (s .entry)) at requestBytes) ⌝ }

@@ -16,7 +16,7 @@ use fields::layout::LAST_STEP_AT;
 use fields::privilege::Privilege;
 use fields::request;
 
-// The step whose flag and whose privilege stand at two places of a rule's block is set, and the request does it.
+// The step whose flag and whose privilege stand at two bytes of a rule's block is set, and the request does it.
 fn does_step(b: &[u8], flag: usize, at: usize, q: &[u8]) -> bool
     requires { ⌜ (length (now b) ≡ blockBytes) × (length (now q) ≡ requestBytes) × (flag < blockBytes) × (at + 4 ≤ blockBytes) ⌝ }
     ensures { λ r. ⌜ r ≡ eqb (byteAt (now (b .entry)) flag) 1 && does (privilegeAt (now (b .entry)) at) (now (q .entry)) ⌝ }

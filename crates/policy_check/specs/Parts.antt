@@ -24,7 +24,7 @@ goodLevelOf depth level i = cond (ltb i depth) (goodLevel (level i)) (blankLevel
 abbrev pub goodLevels : Rule → Bool
 goodLevels r = allBelow mostLevels (goodLevelOf (r .depth) (r .level))
 
--- the step whose flag and whose privilege stand at two places
+-- the step whose flag and whose privilege stand at two bytes
 abbrev pub stepAt : List ℕ → ℕ → ℕ → Step
 stepAt b flag at = record { flag = byteAt b flag; privilege = privilegeAt b at }
 

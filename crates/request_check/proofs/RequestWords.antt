@@ -47,7 +47,7 @@ module _ (s : List ℕ) (bytes : (i : ℕ) → Byte (getD s i 0)) where
       high-half (getD s i 0) (getD s (i + 1) 0) (getD s (i + 2) 0) (getD s (i + 3) 0) (bytes i) (bytes (i + 1))
       ∙ ap (λ (j : ℕ). getD s (i + 2) 0 + 256 * getD s j 0) (omega arith)
 
-  -- ---- the context at a place
+  -- ---- the context at a byte
 
   module _ (at i : ℕ) (four : i < 4) where
     pub level-type : levelType (part s at 16) i ≡ u32At s (at + 4 * i) % 65536
@@ -122,7 +122,7 @@ module _ (w x y z : ℕ) where
     unfolding goodLevelWords goodLastWords
     levels-two u = rw (one, or-true (eqb w 0), u, or-true (eqb x 0), and-true (usedWord y))
 
--- ---- the request at a place
+-- ---- the request at a byte
 
 pub context-at : (s : List ℕ) (at : ℕ) → contextOf (part s at 28) ≡ part s (at + 12) 16
 context-at s at = part-part s at 28 12 16 (omega arith)

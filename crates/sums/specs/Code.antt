@@ -15,7 +15,7 @@ wordBytes = 4
 abbrev pub sumsOf : Sum → Sums
 sumsOf s = record { a = s .a; b = s .b }
 
--- word i of a byte string, from a place on
+-- word i of a byte string, from a byte on
 unfoldable pub wordFrom : List ℕ → ℕ → ℕ → ℕ
 wordFrom s at i = u32At s (at + wordBytes * i)
 

@@ -108,7 +108,7 @@ fn together(four: Four, n: u64) -> Sum
     }
 }
 
-// The sums over n words from a place on: by fours, and the last ones by themselves.
+// The sums over n words from a byte on: by fours, and the last ones by themselves.
 pub fn sum_words(s: &[u8], at: usize, n: usize) -> Sum
     requires { ⌜ at + wordBytes * n ≤ length (now s) ⌝ }
     ensures { λ r. ⌜ sumsOf r ≡ sums (words (part (now (s .entry)) at (wordBytes * n))) ⌝ }

@@ -24,7 +24,7 @@ use Rattle.format.specs.Rule.{Rule, Level, ruleAt, goodMark, goodLevel, goodSte
 use Rattle.format.specs.Fits.{fitsAt, levelFits, fits}
 use Rattle.format.specs.Policy.{Policy, policyFault, policyOf, ruleCount}
 use Rattle.format.specs.Table.{goodMarks}
-use Rattle.format.specs.Place.{recordFrom}
+use Rattle.format.specs.Records.{recordFrom}
 use Rattle.format_laws.proofs.AcceptedPolicy.{rule-good}
 use Rattle.table_check.specs.Shapes.{levelWant, levelMask, paired, shapeWord, Shapes, shapeFits, markFits, marksFit}
 use Rattle.request_check.proofs.RequestWords.{type-word, value-word}
@@ -206,7 +206,7 @@ module _ (r : Rule) (good : goodRule r ≡ true) where
 
 -- ---- a record beside the shapes of a policy
 
--- level l of the request at a place
+-- level l of the request at a byte
 abbrev pub levelWord : List ℕ → ℕ → ℕ → ℕ
 levelWord s at l = u32At s (at + 12 + 4 * l)
 

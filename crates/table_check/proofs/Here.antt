@@ -1,4 +1,4 @@
--- Where the records of a table stand: a record of a block is a record at a place of the block and of the table, and the records of an accepted
+-- Where the records of a table stand: a record of a block is a record at a byte of the block and of the table, and the records of an accepted
 -- table stand at places 0, 1, .. with no gap.
 -- Assumes nothing.
 use Prim.Native.Nat.{ℕ, _+_, _*_, _/_, _%_, _≤_, _<_}
@@ -17,7 +17,7 @@ use Rattle.word_laws.proofs.Parts.{part-part, u32At-part}
 use Rattle.format.specs.Layout.{blockBytes, blockRecords, requestBytes, recordBytes, recordsAt}
 use Rattle.format.specs.Block.{blocks, block}
 use Rattle.format.specs.Table.{Record, count, recordAt, recordsOf, tableFault}
-use Rattle.format.specs.Place.{recordFrom, recordHere, recordsHere}
+use Rattle.format.specs.Records.{recordFrom, recordHere, recordsHere}
 use Rattle.format_laws.proofs.BlockImage.{recordsIn, noRecord}
 use Rattle.format_laws.proofs.Accepted.{accepted-length, packed, chunk-again}
 

@@ -15,7 +15,7 @@ use Rattle.format.specs.Block.{block, kind, number, total, goodCheck}
 use Rattle.format.specs.Policy.{Policy}
 use Rattle.format.specs.Table.{count, recordAt, goodRecord, goodStamp}
 
--- ---- a table block: block k of n with the bytes b, and whether some block before it has fewer records than it has places
+-- ---- a table block: block k of n with the bytes b, and whether some block before it has fewer records than it can have
 
 abbrev pub shortBefore : List ℕ → ℕ → Bool
 shortBefore s k = anyBelow k (λ j. ltb (count (block s j)) blockRecords)

@@ -8,7 +8,7 @@ ghost use Rattle.format.specs.Layout.{contextLevelBytes, requestBytes, recordBy
 ghost use Rattle.format.specs.Policy.{Policy};
 ghost use Rattle.format.specs.Request.{goodRequest};
 ghost use Rattle.format.specs.Table.{goodMarks, goodRecord};
-ghost use Rattle.format.specs.Place.{recordFrom};
+ghost use Rattle.format.specs.Records.{recordFrom};
 ghost use Rattle.table_check.specs.Shapes.{Shapes, marksWithin, marksFit};
 use crate::shapes::SHAPES;
 use crate::shapes::shape_fits;
@@ -23,7 +23,7 @@ use request_check::request::good_request;
 // Where the third level of a request's context stands.
 const THIRD_LEVEL_AT: usize = CONTEXT_AT + 2 * CONTEXT_LEVEL_BYTES;
 
-// The words of two levels, the first of them at a place, as one number.
+// The words of two levels, the first of them at a byte, as one number.
 fn two_levels(s: &[u8], at: usize) -> u64
     requires { ⌜ at + 2 * contextLevelBytes ≤ length (now s) ⌝ }
     ensures { λ r. ⌜ r ≡ u32At (now (s .entry)) at + 4294967296 * u32At (now (s .entry)) (at + contextLevelBytes) ⌝ }
@@ -55,7 +55,7 @@ fn marks_fit(shapes: &[u64; SHAPES], rules: u32, low: u64, high: u64, marks: Rul
     true
 }
 
-// The request and the marks of the record at a place, under the policy that the shapes are of. It may have no mark.
+// The request and the marks of the record at a byte, under the policy that the shapes are of. It may have no mark.
 pub fn good_request_and_marks(shapes: &[u64; SHAPES], rules: u32, s: &[u8], at: usize) -> bool
     requires { ⌜ at + recordBytes ≤ length (now s) ⌝ }
     ensures { λ r. ⌜ ((p : Policy) → Shapes p rules (now (shapes .entry)) → r ≡ goodRequest (part (now (s .entry)) at requestBytes) && goodMarks p (recordFrom (now (s .entry)) at)) ⌝ }
@@ -72,7 +72,7 @@ pub fn good_request_and_marks(shapes: &[u64; SHAPES], rules: u32, s: &[u8], at: 
     )
 }
 
-// The record at a place, under the same policy: it has a mark too.
+// The record at a byte, under the same policy: it has a mark too.
 pub fn good_record(shapes: &[u64; SHAPES], rules: u32, s: &[u8], at: usize) -> bool
     requires { ⌜ at + recordBytes ≤ length (now s) ⌝ }
     ensures { λ r. ⌜ ((p : Policy) → Shapes p rules (now (shapes .entry)) → r ≡ goodRecord p (recordFrom (now (s .entry)) at)) ⌝ }

@@ -52,7 +52,7 @@ fn good_heading(b: &[u8], k: u32, n: u32, short: bool) -> bool
         & !((count != 0) & short)
 }
 
-// The spare bytes too: those before the stamp, and the places that have no record.
+// The spare bytes too: those before the stamp, and those where no record stands.
 fn good_header(b: &[u8], k: u32, n: u32, short: bool) -> bool
     requires { ⌜ length (now b) ≡ blockBytes ⌝ }
     ensures { λ r. ⌜ r ≡ goodTableHead short k n (now (b .entry)) ⌝ }

@@ -4,5 +4,5 @@ pub mod Over
 pub mod Sealing
 pub mod Parts
 pub mod Copied
-pub mod Places
+pub mod Records
 pub mod TableWritten

@@ -1,4 +1,4 @@
--- Bytes replaced from a place on: the length stays, what is read there are the new bytes and elsewhere the old ones, and runs of stores that follow
+-- Bytes replaced from a byte on: the length stays, what is read there are the new bytes and elsewhere the old ones, and runs of stores that follow
 -- one another are one.
 -- Assumes nothing.
 use Prim.Native.Nat.{ℕ, _+_, _-_, _≤_}

@@ -17,14 +17,14 @@ use Rattle.word_laws.proofs.Bytes.{Byte}
 use Rattle.format.specs.Layout.{blockBytes, capacity}
 use Rattle.format.specs.Block.{blocks, block}
 use Rattle.format.specs.Table.{recordAt, blockImage, tableImage}
-use Rattle.format.specs.Place.{recordsHere}
+use Rattle.format.specs.Records.{recordsHere}
 use Rattle.table_write.specs.Writing.{over, countIn, imageBlock, hasBlock, ImageBut, KeptBut}
 use Rattle.table_write.specs.declared.blocks.BlockSet.{BlockSet}
 use Rattle.fields.specs.Code.{HasRoom}
 use Rattle.format_laws.proofs.TableImage.{image-block}
 use Rattle.table_write.proofs.Over.{over-sized}
 use Rattle.table_write.proofs.Parts.{part-before, part-behind, part-here}
-use Rattle.table_write.proofs.Places.{chunk-here, records-whole}
+use Rattle.table_write.proofs.Records.{chunk-here, records-whole}
 
 -- where every block is to be written nothing is asked
 pub all-changed : (t : Sums) (s : List ℕ) (n : ℕ) (set : BlockSet) → ((k : ℕ) → k < blocks s → hasBlock set k ≡ true) → ImageBut t s n set

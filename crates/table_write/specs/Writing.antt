@@ -1,4 +1,4 @@
--- What writing leaves of a table: bytes replaced from a place on, and what must stand in a table of which some blocks are still to be written.
+-- What writing leaves of a table: bytes replaced from a byte on, and what must stand in a table of which some blocks are still to be written.
 -- Assumes nothing.
 use Prim.Native.Nat.{ℕ, _+_, _-_, _*_, _<_, min}
 use mathlib.Core.Path.{_≡_}
@@ -11,10 +11,10 @@ use Rattle.words.specs.Sums.{Sums}
 use Rattle.format.specs.Layout.{blockRecords, tableKind}
 use Rattle.format.specs.Block.{blocks, block, sumBytes}
 use Rattle.format.specs.Table.{Record, blockImage}
-use Rattle.format.specs.Place.{recordsHere}
+use Rattle.format.specs.Records.{recordsHere}
 use Rattle.table_write.specs.declared.blocks.BlockSet.{BlockSet}
 
--- the n bytes from a place on replaced by these n
+-- the n bytes from a byte on replaced by these n
 abbrev pub over : List ℕ → ℕ → ℕ → List ℕ → List ℕ
 over s at n bytes = take at s ++ bytes ++ drop (at + n) s
 

@@ -10,7 +10,7 @@ ghost use Rattle.sums.specs.Code.{sumsOf};
 ghost use Rattle.format.specs.Layout.{blockBytes, checkAt, spareAt, recordsAt, blockRecords, recordBytes, requestBytes, tableBlocks};
 ghost use Rattle.format.specs.Block.{blocks, block as blockAt, goodLength, sumBytes, sealed};
 ghost use Rattle.format.specs.Table.{recordAt, blockImage, tableImage};
-ghost use Rattle.format.specs.Place.{recordsHere};
+ghost use Rattle.format.specs.Records.{recordsHere};
 ghost use Rattle.table_write.specs.Writing.{over, numbersImage, headerImage, countIn, ImageBut};
 use crate::blocks::BlockSet;
 use fields::field::put_u16;
@@ -165,7 +165,7 @@ fn copy_words(s: &mut [u8], at: usize, from: &[u8], n: usize)
     }
 }
 
-// Copies n words to a place that is not behind their own: a word is read before it is written over.
+// Copies n words to a byte that is not behind their own: a word is read before it is written over.
 fn move_words(s: &mut [u8], from: usize, to: usize, n: usize)
     requires { ⌜ (to ≤ from) × (from + 4 * n ≤ length (now s)) ⌝ }
     ensures { λ r. ⌜ now (s .exit) ≡ over (now (s .entry)) to (4 * n) (part (now (s .entry)) from (4 * n)) ⌝ }

@@ -13,14 +13,14 @@ use Rattle.format.specs.Layout.{blockBytes, blockRecords, requestBytes, capacit
 use Rattle.format.specs.Block.{blocks, block}
 use Rattle.format.specs.Request.{Request}
 use Rattle.format.specs.Table.{Record, recordAt, tableImage}
-use Rattle.format.specs.Place.{recordHere, recordsHere}
+use Rattle.format.specs.Records.{recordHere, recordsHere}
 use Rattle.judge.specs.NewTable.{sweep}
 use Rattle.fields.specs.Code.{HasRoom}
 use Rattle.matching.specs.declared.masks.Each.{Each}
 use Rattle.table_write.specs.declared.blocks.BlockSet.{BlockSet}
 use Rattle.table_write.specs.Writing.{countIn, hasBlock, noBlock, KeptBut}
 use Rattle.table_write.proofs.BlockSets.{has-none, not-with}
-use Rattle.table_write.proofs.Places.{recordPut, length-put, records-more, block-kept, here-in-block}
+use Rattle.table_write.proofs.Records.{recordPut, length-put, records-more, block-kept, here-in-block}
 use Rattle.clearing.specs.Cleared.{clearedBy, leftBy, afterBy, AllMarked}
 use Rattle.clearing.proofs.Left.{length-here}
 use Rattle.clearing.proofs.After.{after-none, after-one, after-count}

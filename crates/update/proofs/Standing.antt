@@ -16,11 +16,11 @@ use Rattle.format.specs.Block.{blocks}
 use Rattle.format.specs.Request.{goodRequest}
 use Rattle.format.specs.Policy.{Policy, policyOf, stamp}
 use Rattle.format.specs.Table.{Record, hasMark, goodMarks, goodRecord, tableFault, recordsOf, tableImage}
-use Rattle.format.specs.Place.{recordsHere}
+use Rattle.format.specs.Records.{recordsHere}
 use Rattle.format_laws.proofs.RecordImage.{Whole}
 use Rattle.format_laws.proofs.Accepted.{accepted-length, accepted-image, accepted-records}
 use Rattle.judge.specs.NewTable.{sweep}
-use Rattle.table_write.proofs.Places.{image-here}
+use Rattle.table_write.proofs.Records.{image-here}
 use Rattle.fields.specs.Code.{HasRoom}
 use Rattle.clearing.specs.Cleared.{AllMarked}
 

@@ -15,7 +15,7 @@ use Rattle.format.specs.Layout.{capacity}
 use Rattle.format.specs.Block.{blocks}
 use Rattle.format.specs.Policy.{policyOf, ruleCount}
 use Rattle.format.specs.Table.{goodRecord, recordsOf, tableImage}
-use Rattle.format.specs.Place.{recordsHere}
+use Rattle.format.specs.Records.{recordsHere}
 use Rattle.format_laws.proofs.RecordImage.{Whole}
 use Rattle.format_laws.proofs.AcceptedPolicy.{rules-most}
 use Rattle.judge.specs.NewTable.{openIn, recordOf, sweep, tableAfter}

@@ -10,7 +10,7 @@ ghost use Rattle.format.specs.Layout.{requestBytes, tableBlocks, capacity};
 ghost use Rattle.format.specs.Answer.{grant, Outcome};
 ghost use Rattle.format.specs.Block.{blocks};
 ghost use Rattle.format.specs.Table.{tableImage};
-ghost use Rattle.format.specs.Place.{recordsHere};
+ghost use Rattle.format.specs.Records.{recordsHere};
 ghost use Rattle.fields.specs.Code.{HasRoom};
 ghost use Rattle.clearing.specs.Cleared.{AllMarked};
 ghost use Rattle.update.specs.Updating.{answerOf, Judged, updateOf};

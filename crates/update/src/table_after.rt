@@ -8,7 +8,7 @@ ghost use Rattle.sums.specs.Code.{sumsOf};
 ghost use Rattle.format.specs.Layout.{recordBytes, requestBytes, capacity};
 ghost use Rattle.format.specs.Block.{blocks};
 ghost use Rattle.format.specs.Table.{tableImage};
-ghost use Rattle.format.specs.Place.{recordPlace, recordsHere};
+ghost use Rattle.format.specs.Records.{recordStart, recordsHere};
 ghost use Rattle.fields.specs.Code.{HasRoom};
 ghost use Rattle.table_write.specs.Writing.{over, noBlock, KeptBut};
 ghost use Rattle.clearing.specs.Cleared.{leftBy, afterBy, AllMarked};
@@ -17,7 +17,7 @@ use clearing::sweeping::Swept;
 use clearing::sweeping::sweep;
 use fields::sets::RuleSet;
 use fields::tables::Blocks;
-use fields::tables::record_place;
+use fields::tables::record_start;
 use matching::masks::Each;
 use matching::rules::Effect;
 use sums::sum::Sum;
@@ -41,9 +41,9 @@ fn remove(each: Each, ends: RuleSet, q: &[u8], table: &mut [u8], n: usize) -> Sw
 pub fn append(table: &mut [u8], n: usize, q: &[u8], gives: RuleSet)
     requires { ⌜ (HasRoom (now table) n) × (n < capacity (blocks (now table))) ⌝ }
     requires { ⌜ length (now q) ≡ requestBytes ⌝ }
-    ensures { λ r. ⌜ now (table .exit) ≡ over (now (table .entry)) (recordPlace n) recordBytes (now (q .entry) ++ bytes4 (gives .0)) ⌝ }
+    ensures { λ r. ⌜ now (table .exit) ≡ over (now (table .entry)) (recordStart n) recordBytes (now (q .entry) ++ bytes4 (gives .0)) ⌝ }
 {
-    put_record(table, record_place(n), q, gives);
+    put_record(table, record_start(n), q, gives);
 }
 
 // Writes the table after a grant, and says how many records it holds.

@@ -21,7 +21,7 @@ use Rattle.format.specs.Rule.{ruleAt}
 use Rattle.format.specs.Fits.{fits}
 use Rattle.format.specs.Policy.{Policy, policyFault, policyOf, ruleCount}
 use Rattle.format.specs.Table.{Record}
-use Rattle.format.specs.Place.{recordsHere}
+use Rattle.format.specs.Records.{recordsHere}
 use Rattle.format_laws.proofs.AcceptedPolicy.{rules-most}
 use Rattle.judge.specs.Tally.{counted}
 use Rattle.judge.specs.Verdict.{permitted, isLast, judges, failing, verdict}

@@ -7,7 +7,7 @@ ghost use lib.ListN.{length, getD};
 ghost use Rattle.words.specs.First.{first};
 ghost use Rattle.format.specs.Layout.{requestBytes, recordBytes, mostRules, tableBlocks, capacity};
 ghost use Rattle.format.specs.Policy.{policyFault, policyOf};
-ghost use Rattle.format.specs.Place.{recordsHere};
+ghost use Rattle.format.specs.Records.{recordsHere};
 ghost use Rattle.format.specs.Code.{faultOf};
 ghost use Rattle.judge.specs.Verdict.{permitted as permittedBy};
 ghost use Rattle.fields.specs.Code.{HasRoom};

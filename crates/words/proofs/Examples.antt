@@ -1,5 +1,5 @@
 -- Worked examples of bytes, words, the sum and lists, document 01's four sums among them. Each is broken by one of this crate's must-fail edits.
--- No edit alters these: byteAt, zeros and part are other names for words of the library (an element of a list, n zeros, n elements from a place on);
+-- No edit alters these: byteAt, zeros and part are other names for words of the library (an element of a list, n zeros, n elements from a byte on);
 -- unless and nonEmpty are two cases each, which an edit could only exchange.
 -- Assumes nothing.
 use Prim.Native.Nat.{ℕ}

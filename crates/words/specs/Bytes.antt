@@ -7,7 +7,7 @@ use lib.ListN.{getD, take, drop, replicate}
 use lib.Dec.{eqb}
 use Rattle.words.specs.Lists.{allBelow}
 
--- the fields of 1, 2 and 4 bytes at a place
+-- the fields of 1, 2 and 4 bytes at a byte
 abbrev pub byteAt : List ℕ → ℕ → ℕ
 byteAt s i = getD s i 0
 
@@ -28,11 +28,11 @@ bytes4 x = x % 256 ∷ x / 256 % 256 ∷ x / 65536 % 256 ∷ x / 16777216 % 256 
 abbrev pub zeros : ℕ → List ℕ
 zeros n = replicate n 0
 
--- the n bytes from a place on
+-- the n bytes from a byte on
 abbrev pub part : List ℕ → ℕ → ℕ → List ℕ
 part s at n = take n (drop at s)
 
--- the n bytes from a place on are zero
+-- the n bytes from a byte on are zero
 unfoldable pub zeroFrom : List ℕ → ℕ → ℕ → Bool
 zeroFrom s at n = allBelow n (λ i. eqb (getD s (at + i) 0) 0)
 

@@ -9,7 +9,7 @@ use Rattle.words.specs.Bytes.{bytes4, part}
 use Rattle.word_laws.proofs.Every.{Every}
 use Rattle.word_laws.proofs.Bytes.{Byte}
 use Rattle.format.specs.Block.{blocks}
-use Rattle.format.specs.Place.{recordFrom, recordHere}
+use Rattle.format.specs.Records.{recordFrom, recordHere}
 use Rattle.table_write.specs.Writing.{over}
 use Rattle.table_write.proofs.SliceBytes.{slice-bytes}
 use Rattle.clearing.specs.Cleared.{clearedBy}
@@ -43,8 +43,8 @@ loop-holds c =
     let a = o .before .before .before .args in
     (omega arith, slice-bytes (a .table .now) (o .before .slice-known .given), rw (o .none .ensures) (clear-start (a .each) (a .q .now) (a .ends .0) (a .table .now)))
 
-record-place-requires : tie.Need-record-place-requires Inv-loop μ-loop
-record-place-requires c κs = search needs
+record-start-requires : tie.Need-record-start-requires Inv-loop μ-loop
+record-start-requires c κs = search needs
 
 cleared-marks-requires : tie.Need-cleared-marks-requires Inv-loop μ-loop
 cleared-marks-requires c κs = search needs
@@ -59,7 +59,7 @@ loop-less : tie.Need-loop-less Inv-loop μ-loop
 loop-less c = search needs
 
 -- from a record's place back to the loop's head, and from there to the start
-abbrev turn : tie.After-record-place Inv-loop μ-loop → tie.At-loop Inv-loop μ-loop
+abbrev turn : tie.After-record-start Inv-loop μ-loop → tie.At-loop Inv-loop μ-loop
 turn p = p .before .before
 
 abbrev began : tie.At-loop Inv-loop μ-loop → tie.Start Inv-loop μ-loop
@@ -73,7 +73,7 @@ left-are k =
     let p = k .before .before in
     let l = turn p .loop in
     let a = began (turn p) .args in
-    k .cleared-marks .ensures ∙ ap (λ at. clearedBy (a .each) (a .q .now) (a .ends .0) (recordFrom (l .table) at) .marks) (p .record-place .ensures)
+    k .cleared-marks .ensures ∙ ap (λ at. clearedBy (a .each) (a .q .now) (a .ends .0) (recordFrom (l .table) at) .marks) (p .record-start .ensures)
 
 loop-again : tie.Need-loop-again Inv-loop μ-loop
 loop-again c =
@@ -85,7 +85,7 @@ loop-again c =
       omega arith,
       l .inv .1,
       clear-skip (a .each) (a .q .now) (a .ends .0) (l .inv .2)
-          (sym (left-are k) ∙ c .if2 .taken ∙ m .marks .ensures ∙ ap (λ at. recordFrom (l .table) at .marks) (p .record-place .ensures)),
+          (sym (left-are k) ∙ c .if2 .taken ∙ m .marks .ensures ∙ ap (λ at. recordFrom (l .table) at .marks) (p .record-start .ensures)),
     )
 
 put-marks-requires : tie.Need-put-marks-requires Inv-loop μ-loop
@@ -115,7 +115,7 @@ loop-again-2 c =
       slice-bytes _ (c .before .slice-known2 .given),
       clear-put (a .each) (a .q .now) (a .ends .0) (l .inv .2) (blocks (a .table .now)) left
           (l .inv .2 .long ∙ h .whole) (omega (arith, h .few)) (left-are k) (l .inv .1)
-          (d .put-marks .ensures ∙ ap {B = List ℕ} (λ at. over t at 32 (part t at 28 ++ bytes4 left)) (p .record-place .ensures))
+          (d .put-marks .ensures ∙ ap {B = List ℕ} (λ at. over t at 32 (part t at 28 ++ bytes4 left)) (p .record-start .ensures))
           (c .with .ensures),
     )
 
@@ -139,7 +139,7 @@ clear-marks-spec =
     is-empty-requires
     returns
     loop-holds
-    record-place-requires
+    record-start-requires
     cleared-marks-requires
     marks-requires
     add-i

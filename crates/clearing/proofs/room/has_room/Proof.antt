@@ -5,7 +5,7 @@ use native.Mathlib.Omega.{arith}
 use mathlib.Core.Path.{_≡_, sym, _∙_}
 use lib.ListN.{length}
 use borrow.Author.Tests.{le-leb, lt-leb, eqb-true, eqb-false}
-use Rattle.format.specs.Place.{recordsHere}
+use Rattle.format.specs.Records.{recordsHere}
 use Rattle.clearing.specs.Cleared.{leftBy, afterBy}
 use Rattle.clearing.proofs.Left.{length-here, left-all}
 use Rattle.clearing.proofs.After.{after-few, counted-room, stay-length, recorded-none, recorded-one}

@@ -5,7 +5,7 @@ use native.Mathlib.Omega.{arith}
 use mathlib.Core.Path.{_≡_, sym, ap, ap₂, _∙_}
 use mathlib.Core.List.{[], _∷_}
 use lib.ListN.{length, length-append}
-use Rattle.format.specs.Place.{recordHere, recordsHere}
+use Rattle.format.specs.Records.{recordHere, recordsHere}
 use Rattle.clearing.specs.Cleared.{leftBy}
 use Rattle.clearing.proofs.Left.{left-start, left-more}
 use borrow.Author.Needs.{needs}

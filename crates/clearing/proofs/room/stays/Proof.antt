@@ -4,15 +4,15 @@ use native.Mathlib.Omega.{arith}
 use mathlib.Core.Path.{_≡_, sym, ap, _∙_}
 use lib.ListN.{length}
 use borrow.Author.Tests.{eqb-true, eqb-false}
-use Rattle.format.specs.Place.{recordFrom, recordHere}
+use Rattle.format.specs.Records.{recordFrom, recordHere}
 use Rattle.clearing.specs.Cleared.{clearedBy}
 use Rattle.clearing.proofs.Left.{left-none, left-one}
 use borrow.Author.Needs.{needs}
 use Rattle.clearing.proofs.room.stays.Statement.{statement}
 use Rattle.clearing.proofs.room.stays.Tie as tie
 
-record-place-requires : tie.Need-record-place-requires
-record-place-requires c κs = search needs
+record-start-requires : tie.Need-record-start-requires
+record-start-requires c κs = search needs
 
 cleared-marks-requires : tie.Need-cleared-marks-requires
 cleared-marks-requires c κs = search needs
@@ -25,7 +25,7 @@ marks-are : (c : tie.After-cleared-marks) → let a = c .before .before .before 
 marks-are c =
     let a = c .before .before .before .before .args in
     c .cleared-marks .ensures
-    ∙ ap (λ at. clearedBy (a .each) (a .q .now) (a .ends .0) (recordFrom (a .table .now) at) .marks) (c .before .record-place .ensures)
+    ∙ ap (λ at. clearedBy (a .each) (a .q .now) (a .ends .0) (recordFrom (a .table .now) at) .marks) (c .before .record-start .ensures)
 
 returns : tie.Need-returns
 returns c =
@@ -46,4 +46,4 @@ returns-2 c =
 pub stays-spec : {M : Type 1} → statement M
 stays-spec =
     tie.close
-    (tie.spec record-place-requires cleared-marks-requires is-empty-requires returns returns-2)
+    (tie.spec record-start-requires cleared-marks-requires is-empty-requires returns returns-2)

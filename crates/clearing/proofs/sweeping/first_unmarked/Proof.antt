@@ -4,7 +4,7 @@ use Prim.Native.Nat.{_-_, _≤_}
 use native.Mathlib.Omega.{arith}
 use mathlib.Core.Path.{_≡_, sym, ap, _∙_}
 use borrow.Author.Tests.{eqb-false}
-use Rattle.format.specs.Place.{recordFrom}
+use Rattle.format.specs.Records.{recordFrom}
 use Rattle.clearing.specs.Cleared.{AllMarked}
 use Rattle.clearing.proofs.RecordsSwept.{marked-none, marked-more}
 use borrow.Author.Needs.{needs}
@@ -20,8 +20,8 @@ abbrev μ-loop : tie.MeasureT-loop
 loop-holds : tie.Need-loop-holds Inv-loop μ-loop
 loop-holds c = (omega arith, marked-none (c .before .args .table .now))
 
-record-place-requires : tie.Need-record-place-requires Inv-loop μ-loop
-record-place-requires c κs = search needs
+record-start-requires : tie.Need-record-start-requires Inv-loop μ-loop
+record-start-requires c κs = search needs
 
 marks-requires : tie.Need-marks-requires Inv-loop μ-loop
 marks-requires c κs = search needs
@@ -46,7 +46,7 @@ loop-again c =
     let l = p .before .before .loop in
     let t = p .before .before .before .before .args .table .now in
     let some = eqb-false (m .marks .result .0) 0 (sym (e .is-empty .ensures) ∙ c .if1 .left) in
-    (omega arith, marked-more t (l .i) (l .inv .1) (λ z. some (m .marks .ensures ∙ ap (λ at. recordFrom t at .marks) (p .record-place .ensures) ∙ z)))
+    (omega arith, marked-more t (l .i) (l .inv .1) (λ z. some (m .marks .ensures ∙ ap (λ at. recordFrom t at .marks) (p .record-start .ensures) ∙ z)))
 
 returns-2 : tie.Need-returns-2 Inv-loop μ-loop
 returns-2 c =
@@ -61,7 +61,7 @@ first-unmarked-spec =
     Inv-loop
     μ-loop
     loop-holds
-    record-place-requires
+    record-start-requires
     marks-requires
     is-empty-requires
     returns

@@ -9,7 +9,7 @@ use Rattle.words.specs.Bytes.{bytes4, part}
 use Rattle.word_laws.proofs.Every.{Every}
 use Rattle.word_laws.proofs.Bytes.{Byte}
 use Rattle.format.specs.Block.{blocks}
-use Rattle.format.specs.Place.{recordFrom, recordHere}
+use Rattle.format.specs.Records.{recordFrom, recordHere}
 use Rattle.table_write.specs.Writing.{over}
 use Rattle.table_write.proofs.SliceBytes.{slice-bytes}
 use Rattle.clearing.proofs.RecordsSwept.{MovedUp, up-start, up-drop, up-move, swept-all, swept-some}
@@ -41,8 +41,8 @@ loop-holds c =
     let a = f .before .before .before .args in
     (f .first-unmarked .ensures .0, slice-bytes (a .table .now) (f .before .before .slice-known .given), up-start (a .table .now) (f .first-unmarked .result) (f .first-unmarked .ensures .1))
 
-record-place-requires : tie.Need-record-place-requires Inv-loop μ-loop
-record-place-requires c κs = search needs
+record-start-requires : tie.Need-record-start-requires Inv-loop μ-loop
+record-start-requires c κs = search needs
 
 marks-requires : tie.Need-marks-requires Inv-loop μ-loop
 marks-requires c κs = search needs
@@ -57,7 +57,7 @@ loop-less : tie.Need-loop-less Inv-loop μ-loop
 loop-less c = search needs
 
 -- from a record's place back to the loop's head, and from there to the start
-abbrev turn : tie.After-record-place Inv-loop μ-loop → tie.At-loop Inv-loop μ-loop
+abbrev turn : tie.After-record-start Inv-loop μ-loop → tie.At-loop Inv-loop μ-loop
 turn p = p .before .before
 
 abbrev began : tie.At-loop Inv-loop μ-loop → tie.Start Inv-loop μ-loop
@@ -69,7 +69,7 @@ marks-are : (m : tie.After-marks Inv-loop μ-loop) → let l = turn (m .before .
 marks-are m =
     let p = m .before .before in
     let l = turn p .loop in
-    m .marks .ensures ∙ ap (λ at. recordFrom (l .table) at .marks) (p .record-place .ensures)
+    m .marks .ensures ∙ ap (λ at. recordFrom (l .table) at .marks) (p .record-start .ensures)
 
 loop-again : tie.Need-loop-again Inv-loop μ-loop
 loop-again c =
@@ -82,8 +82,8 @@ loop-again c =
       up-drop (l .inv .2) (sym (marks-are m) ∙ eqb-true (m .marks .result .0) 0 (sym (e .is-empty .ensures) ∙ c .if2 .taken)),
     )
 
-record-place-requires-2 : tie.Need-record-place-requires-2 Inv-loop μ-loop
-record-place-requires-2 c κs = search needs
+record-start-requires-2 : tie.Need-record-start-requires-2 Inv-loop μ-loop
+record-start-requires-2 c κs = search needs
 
 move-record-requires : tie.Need-move-record-requires Inv-loop μ-loop
 move-record-requires c κs = search needs
@@ -114,7 +114,7 @@ loop-again-2 c =
       up-move (l .inv .2) (blocks (s .args .table .now)) marks (l .inv .2 .long ∙ h .whole) (omega (arith, h .few)) (marks-are m)
           (eqb-false marks 0 (sym (e .is-empty .ensures) ∙ g .if2 .left)) (l .inv .1)
           (d .move-record .ensures
-          ∙ ap₂ {C = List ℕ} (λ to from. over t to 32 (part t from 28 ++ bytes4 marks)) (d .before .record-place2 .ensures) (p .record-place .ensures)),
+          ∙ ap₂ {C = List ℕ} (λ to from. over t to 32 (part t from 28 ++ bytes4 marks)) (d .before .record-start2 .ensures) (p .record-start .ensures)),
     )
 
 add-end : tie.Need-add-end Inv-loop μ-loop
@@ -147,13 +147,13 @@ sweep-spec =
     same-length
     returns
     loop-holds
-    record-place-requires
+    record-start-requires
     marks-requires
     is-empty-requires
     add-i
     loop-less
     loop-again
-    record-place-requires-2
+    record-start-requires-2
     move-record-requires
     add-held
     add-i-2

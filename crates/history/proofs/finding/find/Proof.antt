@@ -6,7 +6,7 @@ use mathlib.Core.Path.{sym, _∙_}
 use mathlib.Core.Logic.{⊎-elim}
 use lib.ListN.{length}
 use Rattle.words.specs.Bytes.{part}
-use Rattle.history.proofs.Turns.{room-few, place-inside, place-few, Passed, pass-start, pass-apart, pass-other, pass-found, pass-end, of-user}
+use Rattle.history.proofs.Turns.{room-few, record-inside, start-few, Passed, pass-start, pass-apart, pass-other, pass-found, pass-end, of-user}
 use borrow.Author.Needs.{needs}
 use Rattle.history.proofs.finding.find.Statement.{statement}
 use Rattle.history.proofs.finding.find.Tie as tie
@@ -24,25 +24,32 @@ user-requires c κs = search needs
 loop-holds : tie.Need-loop-holds Inv-loop μ-loop
 loop-holds c = let a = c .before .before .before .before .args in (omega arith, pass-start (a .each) (a .fitting .0) (a .q .now) (a .table .now) (a .found .now))
 
-record-place-requires : tie.Need-record-place-requires Inv-loop μ-loop
-record-place-requires c κs =
+record-start-requires : tie.Need-record-start-requires Inv-loop μ-loop
+record-start-requires c κs =
     let s = c .before .before .before .before .before .before in
     omega (arith, room-few (s .args .table .now) (s .args .n) (s .pre .1), c .before .loop .inv .0)
 
--- the record lies in the table, at a byte that two bytes hold
-module _ (c : tie.After-record-place Inv-loop μ-loop) where
-  inside : c .record-place .result + 32 ≤ length (c .before .before .before .before .before .before .before .args .table .now)
-  inside =
-      let s = c .before .before .before .before .before .before .before in
-      omega (arith, place-inside (s .args .table .now) (s .args .n) (s .pre .1) (c .before .before .loop .k) (omega arith), c .record-place .ensures)
+-- the call, and the loop at hand, from what is known at a point
+abbrev call : tie.After-record-start Inv-loop μ-loop → tie.Start Inv-loop μ-loop
+call c = c .before .before .before .before .before .before .before
 
-  low : c .record-place .result < 65536
+abbrev seen : tie.Then2 Inv-loop μ-loop → tie.After-record-start Inv-loop μ-loop
+seen c = c .before .before .before .before .before .before
+
+-- the record lies in the table, at a byte that two bytes hold
+module _ (c : tie.After-record-start Inv-loop μ-loop) where
+  inside : c .record-start .result + 32 ≤ length (call c .args .table .now)
+  inside =
+      let s = call c in
+      omega (arith, record-inside (s .args .table .now) (s .args .n) (s .pre .1) (c .before .before .loop .k) (omega arith), c .record-start .ensures)
+
+  low : c .record-start .result < 65536
   low =
-      let s = c .before .before .before .before .before .before .before in
-      omega (arith, place-few (s .args .table .now) (s .args .n) (s .pre .1) (c .before .before .loop .k) (omega arith), c .record-place .ensures)
+      let s = call c in
+      omega (arith, start-few (s .args .table .now) (s .args .n) (s .pre .1) (c .before .before .loop .k) (omega arith), c .record-start .ensures)
 
 shared-at-requires : tie.Need-shared-at-requires Inv-loop μ-loop
-shared-at-requires c κs = (c .before .before .before .before .before .before .before .pre .0 .0, inside c)
+shared-at-requires c κs = (call c .pre .0 .0, inside c)
 
 is-empty-requires : tie.Need-is-empty-requires Inv-loop μ-loop
 is-empty-requires c κs = search needs
@@ -57,7 +64,7 @@ loop-again : tie.Need-loop-again Inv-loop μ-loop
 loop-again c =
     let a = c .before .before .before .before .before .before .before .before .before .before .args in (
       omega arith,
-      pass-apart (a .each) (a .fitting .0) (a .q .now) (a .table .now) (c .before .before .before .record-place .ensures) (c .before .before .shared-at .ensures)
+      pass-apart (a .each) (a .fitting .0) (a .q .now) (a .table .now) (c .before .before .before .record-start .ensures) (c .before .before .shared-at .ensures)
           (c .before .before .before .before .before .loop .inv .1) (sym (c .before .is-empty .ensures) ∙ c .if1 .taken),
     )
 
@@ -68,20 +75,20 @@ same-user-requires : tie.Need-same-user-requires Inv-loop μ-loop
 same-user-requires c κs = omega (arith, inside (c .before .before .before .before))
 
 cast-found : tie.Need-cast-found Inv-loop μ-loop
-cast-found c = omega (arith, low (c .before .before .before .before .before .before))
+cast-found c = omega (arith, low (seen c))
 
--- there is a place for it
-place : (c : tie.Then2 Inv-loop μ-loop) → let l = c .before .before .before .before .before .before .before .before .loop in l .count < length (l .found)
-place c =
-    let l = c .before .before .before .before .before .before .before .before .loop in
-    let s = c .before .before .before .before .before .before .before .before .before .before .before .before .before in
+-- there is room for it
+spare : (c : tie.Then2 Inv-loop μ-loop) → let l = seen c .before .before .loop in l .count < length (l .found)
+spare c =
+    let l = seen c .before .before .loop in
+    let s = call (seen c) in
     omega (arith, l .inv .1 .few, l .inv .1 .sized, s .pre .0 .1)
 
 mul-found : tie.Need-mul-found Inv-loop μ-loop
 mul-found c = search needs
 
 slice-write-found : tie.Need-slice-write-found Inv-loop μ-loop
-slice-write-found c = place c
+slice-write-found c = spare c
 
 add-count : tie.Need-add-count Inv-loop μ-loop
 add-count c = omega (arith, c .before .before .before .before .before .before .before .before .loop .inv .1 .few)
@@ -97,16 +104,16 @@ loop-again-2 c =
     let s = c .before .before .before .before .before .before .before .before .before .before .before .before .before in
     let a = s .args in
     let l = c .before .before .before .before .before .before .before .before .loop in
-    let here = c .before .before .before .before .before .before .record-place .ensures in
+    let here = c .before .before .before .before .before .before .record-start .ensures in
     let shared = c .before .before .before .before .before .shared-at .ensures in
     let some = sym (c .before .before .before .before .is-empty .ensures) ∙ c .before .before .before .if1 .left in
-    let x = part (a .table .now) (c .before .before .before .before .before .before .record-place .result) 28 in
+    let x = part (a .table .now) (c .before .before .before .before .before .before .record-start .result) 28 in
     let who = c .before .before .before .before .before .before .before .before .before .user .ensures in (
       omega arith,
       ⊎-elim
           (λ w. rw (w .1, w .2)
           (pass-found (a .each) (a .fitting .0) (a .q .now) (a .table .now) here shared (l .inv .1) some (c .before .before .or .ensures)
-          (of-user (a .q .now) x (s .pre .0 .0) who (c .before .same-user .ensures) (w .0 .taken)) (place record { before = c .before; if2 = w .0 })))
+          (of-user (a .q .now) x (s .pre .0 .0) who (c .before .same-user .ensures) (w .0 .taken)) (spare record { before = c .before; if2 = w .0 })))
           (λ w. rw (w .1, w .2)
           (pass-other (a .each) (a .fitting .0) (a .q .now) (a .table .now) here shared (l .inv .1) some (c .before .before .or .ensures)
           (of-user (a .q .now) x (s .pre .0 .0) who (c .before .same-user .ensures) (w .0 .left))))
@@ -129,7 +136,7 @@ find-spec =
     μ-loop
     user-requires
     loop-holds
-    record-place-requires
+    record-start-requires
     shared-at-requires
     is-empty-requires
     add-k

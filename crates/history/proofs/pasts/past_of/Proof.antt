@@ -28,16 +28,19 @@ mul-at c = search needs
 shared-slice-read-at : tie.Need-shared-slice-read-at Inv-loop μ-loop
 shared-slice-read-at c = search needs
 
+-- the call, from a turn
+abbrev call : tie.After-shared-slice-known4 Inv-loop μ-loop → tie.Start Inv-loop μ-loop
+call c = c .before .before .before .before .before .before .before
+
 -- the record lies in the table
-inside : (c : tie.After-shared-slice-known4 Inv-loop μ-loop) → let a = c .before .before .before .before .before .before .before .args in
-    getD (a .found .now) (c .before .before .loop .j) 0 + 32 ≤ length (a .table .now)
-inside c = c .before .before .before .before .before .before .before .pre .1 (c .before .before .loop .j) (omega arith)
+inside : (c : tie.After-shared-slice-known4 Inv-loop μ-loop) → getD (call c .args .found .now) (c .before .before .loop .j) 0 + 32 ≤ length (call c .args .table .now)
+inside c = call c .pre .1 (c .before .before .loop .j) (omega arith)
 
 cast-at : tie.Need-cast-at Inv-loop μ-loop
 cast-at c = omega (arith, c .shared-slice-known4 .given (c .before .before .loop .j))
 
 stands-in-requires : tie.Need-stands-in-requires Inv-loop μ-loop
-stands-in-requires c κs = let p = c .before .before .before .before .before .before .before .pre in (p .0 .0, inside c, p .0 .1)
+stands-in-requires c κs = let p = call c .pre in (p .0 .0, inside c, p .0 .1)
 
 roles-requires : tie.Need-roles-requires Inv-loop μ-loop
 roles-requires c κs = omega (arith, inside (c .before .before .before))
@@ -48,15 +51,15 @@ privilege-requires c κs = omega (arith, inside (c .before .before .before .befo
 packed-requires : tie.Need-packed-requires Inv-loop μ-loop
 packed-requires c κs = search needs
 
--- there is a place for its request
-place : (c : tie.After-stands-in Inv-loop μ-loop) → let l = c .before .before .before .loop in 2 * l .count + 1 < length (l .past)
-place c =
+-- there is room for its request
+spare : (c : tie.After-stands-in Inv-loop μ-loop) → let l = c .before .before .before .loop in 2 * l .count + 1 < length (l .past)
+spare c =
     let l = c .before .before .before .loop in
-    let s = c .before .before .before .before .before .before .before .before in
+    let s = call (c .before) in
     omega (arith, l .inv .1 .few, l .inv .1 .sized, s .pre .0 .2)
 
 put-past-requires : tie.Need-put-past-requires Inv-loop μ-loop
-put-past-requires c κs = place (c .before .before .before .before .before)
+put-past-requires c κs = spare (c .before .before .before .before .before)
 
 add-count : tie.Need-add-count Inv-loop μ-loop
 add-count c =
@@ -77,7 +80,7 @@ loop-again c =
       ⊎-elim
           (λ w. rw (w .8, w .9, w .5 .ensures)
           (count-more (a .each) (a .q .now) (a .i) (a .table .now) (a .found .now) refl (omega arith) (l .inv .1) (c .before .stands-in .ensures) (w .0 .taken)
-          (w .2 .ensures) (w .4 .ensures ∙ ap packedOf (w .3 .ensures)) (place (c .before))))
+          (w .2 .ensures) (w .4 .ensures ∙ ap packedOf (w .3 .ensures)) (spare (c .before))))
           (λ w. rw (w .1, w .2) (count-apart (a .each) (a .q .now) (a .i) (a .table .now) (a .found .now) refl (omega arith) (l .inv .1) (c .before .stands-in .ensures) (w .0 .left)))
           (c .if1 .came),
     )

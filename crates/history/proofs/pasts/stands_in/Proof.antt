@@ -3,7 +3,7 @@
 use mathlib.Core.Path.{sym, ap, _∙_}
 use mathlib.Core.Bool.{not}
 use Rattle.words.specs.Bytes.{bit}
-use Rattle.format.specs.Place.{recordFrom}
+use Rattle.format.specs.Records.{recordFrom}
 use Rattle.history.proofs.Turns.{stands-unmarked, stands-marked}
 use borrow.Author.Needs.{needs}
 use Rattle.history.proofs.pasts.stands_in.Statement.{statement}

@@ -39,14 +39,15 @@ value-of : (q : List ℕ) (l : ℕ) → length q ≡ 28 → l < 4 → levelValue
 value-of q l e h = ap (λ (x : List ℕ). levelValue (contextOf x) l) (sym (part-whole q 28 e)) ∙ value-at q 0 l h
 
 -- the two values are those that the definition compares
-module _ (c : tie.After-u16-at2) where
-  here : levelValue (contextOf (c .before .before .before .before .args .q .now)) (c .before .before .before .before .args .l) ≡ c .before .u16-at .result
-  here = let s = c .before .before .before .before in value-of (s .args .q .now) (s .args .l) (s .pre .0) (s .pre .1 .1) ∙ sym (c .before .u16-at .ensures .0)
+abbrev call : tie.After-u16-at2 → tie.Start
+call c = c .before .before .before .before
 
-  there :
-      levelValue (contextOf (part (c .before .before .before .before .args .s .now) (c .before .before .before .before .args .at) 28)) (c .before .before .before .before .args .l)
-      ≡ c .u16-at2 .result
-  there = let s = c .before .before .before .before in value-at (s .args .s .now) (s .args .at) (s .args .l) (s .pre .1 .1) ∙ sym (c .u16-at2 .ensures .0)
+module _ (c : tie.After-u16-at2) where
+  here : levelValue (contextOf (call c .args .q .now)) (call c .args .l) ≡ c .before .u16-at .result
+  here = let s = call c in value-of (s .args .q .now) (s .args .l) (s .pre .0) (s .pre .1 .1) ∙ sym (c .before .u16-at .ensures .0)
+
+  there : levelValue (contextOf (part (call c .args .s .now) (call c .args .at) 28)) (call c .args .l) ≡ c .u16-at2 .result
+  there = let s = call c in value-at (s .args .s .now) (s .args .at) (s .args .l) (s .pre .1 .1) ∙ sym (c .u16-at2 .ensures .0)
 
 returns : tie.Need-returns
 returns c = rw (here (c .before), there (c .before)) (rw (eq-eqb (c .before .before .u16-at .result) (c .before .u16-at2 .result) (c .if1 .taken)))

@@ -46,19 +46,32 @@ abbrev μ-loop : tie.MeasureT-loop
 loop-holds : tie.Need-loop-holds Inv-loop μ-loop
 loop-holds c = (omega arith, (sym (bits-start _), (sym (bits-start _), sym (bits-start _))))
 
+-- the call, seen from a turn; and the turn, seen from behind each flag
+abbrev call : tie.In-loop Inv-loop μ-loop → tie.Start Inv-loop μ-loop
+call c = c .before .before .before .before
+
+abbrev turn₁ : tie.After-flag Inv-loop μ-loop → tie.In-loop Inv-loop μ-loop
+turn₁ c = c .before .before .before
+
+abbrev turn₂ : tie.After-flag2 Inv-loop μ-loop → tie.In-loop Inv-loop μ-loop
+turn₂ c = turn₁ (c .before .before)
+
+abbrev turn₃ : tie.After-flag3 Inv-loop μ-loop → tie.In-loop Inv-loop μ-loop
+turn₃ c = turn₂ (c .before .before)
+
 -- at a turn the rule is one of the policy's, so that its block stands in the image
 module _ (c : tie.In-loop Inv-loop μ-loop) where
-  one : c .before .loop .i < ruleCount (c .before .before .before .before .args .policy .now)
-  one = omega (arith, c .before .before .before .before .pre .0 .rules-are)
+  one : c .before .loop .i < ruleCount (call c .args .policy .now)
+  one = omega (arith, call c .pre .0 .rules-are)
 
   few : c .before .loop .i < 32
-  few = let s = c .before .before .before .before in omega (arith, one, rules-most (s .args .policy .now) (s .pre .0 .accepted))
+  few = omega (arith, one, rules-most (call c .args .policy .now) (call c .pre .0 .accepted))
 
-  inside : 512 * c .before .loop .i + 512 ≤ length (c .before .before .before .before .args .policy .now)
-  inside = let s = c .before .before .before .before in rule-inside (s .args .policy .now) (s .pre .0 .accepted) (c .before .loop .i) one
+  inside : 512 * c .before .loop .i + 512 ≤ length (call c .args .policy .now)
+  inside = rule-inside (call c .args .policy .now) (call c .pre .0 .accepted) (c .before .loop .i) one
 
-  whole : length (block (c .before .before .before .before .args .policy .now) (c .before .loop .i)) ≡ 512
-  whole = part-length (c .before .before .before .before .args .policy .now) (512 * c .before .loop .i) 512 inside
+  whole : length (block (call c .args .policy .now) (c .before .loop .i)) ≡ 512
+  whole = part-length (call c .args .policy .now) (512 * c .before .loop .i) 512 inside
 
 cast-at : tie.Need-cast-at Inv-loop μ-loop
 cast-at c = search needs
@@ -80,7 +93,7 @@ part-b-end c = omega (arith, inside c)
 
 fits-requires : tie.Need-fits-requires Inv-loop μ-loop
 fits-requires c κs =
-    let s = c .before .before .before .before .before in
+    let s = call (c .before) in
     let i = c .before .before .loop .i in
     rw (part-to (s .args .policy .now) (512 * i) 512)
     (whole (c .before), (depth-few (s .args .policy .now) (s .pre .0 .accepted) i (one (c .before)), omega arith))
@@ -91,14 +104,14 @@ flag-requires c κs = few (c .before .before)
 -- the turn of each set
 module _ (c : tie.After-flag Inv-loop μ-loop) where
   next-fitting :
-      let l = c .before .before .before .before .loop in
-      let a = c .before .before .before .before .before .before .before .args in
+      let l = turn₁ c .before .loop in
+      let a = call (turn₁ c) .args in
       (l .fitting + c .flag .result ≡ those fit (a .policy .now) (a .q .now) (l .i + 1)) × (l .fitting + c .flag .result < 4294967296)
   next-fitting =
-      let l = c .before .before .before .before .loop in
-      let s = c .before .before .before .before .before .before .before in
+      let l = turn₁ c .before .loop in
+      let s = call (turn₁ c) in
       let a = s .args in
-      bits-next (l .i) (λ i. fit (a .q .now) (block (a .policy .now) i)) (few (c .before .before .before)) (l .inv .1 .0)
+      bits-next (l .i) (λ i. fit (a .q .now) (block (a .policy .now) i)) (few (turn₁ c)) (l .inv .1 .0)
       (c .before .fits2 .ensures ∙ ap₂ {C = Bool} (λ (b : List ℕ) (q : Request). fit q b) (part-to (a .policy .now) (512 * l .i) 512) (part-whole (a .q .now) 28 (s .pre .1)))
       (c .flag .ensures)
 
@@ -107,23 +120,23 @@ add-fitting c = omega (arith, next-fitting c .1)
 
 needs-no-run-requires : tie.Need-needs-no-run-requires Inv-loop μ-loop
 needs-no-run-requires c κs =
-    let s = c .before .before .before .before .before .before .before in
-    let i = c .before .before .before .before .loop .i in
-    rw (part-to (s .args .policy .now) (512 * i) 512) (whole (c .before .before .before), s .pre .1)
+    let s = call (turn₁ c) in
+    let i = turn₁ c .before .loop .i in
+    rw (part-to (s .args .policy .now) (512 * i) 512) (whole (turn₁ c), s .pre .1)
 
 flag-requires-2 : tie.Need-flag-requires-2 Inv-loop μ-loop
-flag-requires-2 c κs = few (c .before .before .before .before)
+flag-requires-2 c κs = few (turn₁ (c .before))
 
 module _ (c : tie.After-flag2 Inv-loop μ-loop) where
   next-starting :
-      let l = c .before .before .before .before .before .before .loop in
-      let a = c .before .before .before .before .before .before .before .before .before .args in
+      let l = turn₂ c .before .loop in
+      let a = call (turn₂ c) .args in
       (l .starting + c .flag2 .result ≡ those start (a .policy .now) (a .q .now) (l .i + 1)) × (l .starting + c .flag2 .result < 4294967296)
   next-starting =
-      let l = c .before .before .before .before .before .before .loop in
-      let s = c .before .before .before .before .before .before .before .before .before in
+      let l = turn₂ c .before .loop in
+      let s = call (turn₂ c) in
       let a = s .args in
-      bits-next (l .i) (λ i. start (a .q .now) (block (a .policy .now) i)) (few (c .before .before .before .before .before)) (l .inv .1 .1 .0)
+      bits-next (l .i) (λ i. start (a .q .now) (block (a .policy .now) i)) (few (turn₂ c)) (l .inv .1 .1 .0)
       (ap₂ {C = Bool} (λ (f g : Bool). f && g) (c .before .before .before .fits2 .ensures) (c .before .needs-no-run .ensures)
       ∙ ap₂ {C = Bool} (λ (b : List ℕ) (q : Request). fits (ruleAt b) q && (not (isSet (ruleAt b .firstStep)) || isFirst (ruleAt b) (a .q .now)))
       (part-to (a .policy .now) (512 * l .i) 512) (part-whole (a .q .now) 28 (s .pre .1)))
@@ -134,22 +147,22 @@ add-starting c = omega (arith, next-starting c .1)
 
 is-last-requires : tie.Need-is-last-requires Inv-loop μ-loop
 is-last-requires c κs =
-    let s = c .before .before .before .before .before .before .before .before .before in
-    let i = c .before .before .before .before .before .before .loop .i in
-    rw (part-to (s .args .policy .now) (512 * i) 512) (whole (c .before .before .before .before .before), s .pre .1)
+    let s = call (turn₂ c) in
+    let i = turn₂ c .before .loop .i in
+    rw (part-to (s .args .policy .now) (512 * i) 512) (whole (turn₂ c), s .pre .1)
 
 flag-requires-3 : tie.Need-flag-requires-3 Inv-loop μ-loop
-flag-requires-3 c κs = few (c .before .before .before .before .before .before)
+flag-requires-3 c κs = few (turn₂ (c .before))
 
 module _ (c : tie.After-flag3 Inv-loop μ-loop) where
   next-last :
-      let l = c .before .before .before .before .before .before .before .before .loop in
-      let a = c .before .before .before .before .before .before .before .before .before .before .before .args in
+      let l = turn₃ c .before .loop in
+      let a = call (turn₃ c) .args in
       (l .last + c .flag3 .result ≡ those final (a .policy .now) (a .q .now) (l .i + 1)) × (l .last + c .flag3 .result < 4294967296)
   next-last =
-      let l = c .before .before .before .before .before .before .before .before .loop in
-      let a = c .before .before .before .before .before .before .before .before .before .before .before .args in
-      bits-next (l .i) (λ i. final (a .q .now) (block (a .policy .now) i)) (few (c .before .before .before .before .before .before .before)) (l .inv .1 .1 .1)
+      let l = turn₃ c .before .loop in
+      let a = call (turn₃ c) .args in
+      bits-next (l .i) (λ i. final (a .q .now) (block (a .policy .now) i)) (few (turn₃ c)) (l .inv .1 .1 .1)
       (c .before .is-last .ensures ∙ ap (final (a .q .now)) (part-to (a .policy .now) (512 * l .i) 512))
       (c .flag3 .ensures)
 

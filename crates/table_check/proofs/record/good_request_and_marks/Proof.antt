@@ -12,7 +12,7 @@ use Rattle.word_laws.proofs.Bytes.{Byte}
 use Rattle.format.specs.Layout.{contextAt, requestBytes}
 use Rattle.format.specs.Request.{goodRequest}
 use Rattle.format.specs.Table.{goodMarks}
-use Rattle.format.specs.Place.{recordFrom}
+use Rattle.format.specs.Records.{recordFrom}
 use Rattle.table_check.proofs.Fitting.{paired-levels, marks-fit}
 use Rattle.table_check.proofs.record.good_request_and_marks.Statement.{statement}
 use Rattle.table_check.proofs.record.good_request_and_marks.Tie as tie

@@ -4,7 +4,7 @@ use native.Mathlib.Omega.{arith}
 use mathlib.Core.Path.{_∙_}
 use Rattle.words.specs.Lists.{tab}
 use Rattle.sums.specs.Code.{sumsOf}
-use Rattle.format.specs.Place.{recordsHere}
+use Rattle.format.specs.Records.{recordsHere}
 use Rattle.format_laws.proofs.Accepted.{blocked}
 use Rattle.table_write.proofs.BlockSets.{in-range}
 use Rattle.table_write.proofs.TableWritten.{all-changed}

@@ -6,7 +6,7 @@ use lib.Dec.{leb}
 use lib.ListN.{length}
 use Rattle.format.specs.Layout.{capacity}
 use Rattle.format.specs.Block.{blocks}
-use Rattle.format.specs.Place.{recordsHere}
+use Rattle.format.specs.Records.{recordsHere}
 use Rattle.table_write.proofs.SliceBytes.{slice-bytes}
 use Rattle.clearing.specs.Cleared.{afterBy}
 use Rattle.update.proofs.Standing.{standing}

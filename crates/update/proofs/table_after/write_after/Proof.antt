@@ -12,7 +12,7 @@ use lib.ListN.{length}
 use Rattle.sums.specs.Code.{sumsOf}
 use Rattle.format.specs.Layout.{capacity}
 use Rattle.format.specs.Block.{blocks}
-use Rattle.format.specs.Place.{recordsHere}
+use Rattle.format.specs.Records.{recordsHere}
 use Rattle.table_write.specs.Writing.{hasBlock, noBlock, ImageBut, KeptBut}
 use Rattle.table_write.specs.declared.blocks.BlockSet.{BlockSet}
 use Rattle.table_write.proofs.SliceBytes.{slice-bytes}

@@ -77,16 +77,23 @@ rules-again c =
           (sym (has .ensures) ∙ not-true (has .result) (c .if2 .taken)),
     )
 
+-- the call, from behind the test that the rule at hand judges, and that rule
+abbrev call : tie.Else2 Inv-loop μ-loop Inv-rules μ-rules → tie.Start Inv-loop μ-loop Inv-rules μ-rules
+call c = c .before .before .before .before .before .before .before .before .before
+
+abbrev rule : tie.Else2 Inv-loop μ-loop Inv-rules μ-rules → ℕ
+rule c = c .before .before .before .rules .i
+
 -- a rule that judges is one of the policy's, so that its block stands in the image
 module _ (c : tie.Else2 Inv-loop μ-loop Inv-rules μ-rules) where
-  judges : bit (c .before .before .before .rules .i) (c .before .before .before .before .before .before .before .before .before .args .judging .rules .0) ≡ true
+  judges : bit (rule c) (call c .args .judging .rules .0) ≡ true
   judges = let has = c .before .has in sym (has .ensures) ∙ not-false (has .result) (c .if2 .left)
 
-  below : c .before .before .before .rules .i < ruleCount (c .before .before .before .before .before .before .before .before .before .args .policy .now)
-  below = c .before .before .before .before .before .before .before .before .before .pre .0 .below (c .before .before .before .rules .i) judges
+  below : rule c < ruleCount (call c .args .policy .now)
+  below = call c .pre .0 .below (rule c) judges
 
-  inside : 512 * c .before .before .before .rules .i + 512 ≤ length (c .before .before .before .before .before .before .before .before .before .args .policy .now)
-  inside = rule-inside (c .before .before .before .before .before .before .before .before .before .args .policy .now) (c .before .before .before .before .before .before .before .before .before .pre .0 .accepted) (c .before .before .before .rules .i) below
+  inside : 512 * rule c + 512 ≤ length (call c .args .policy .now)
+  inside = rule-inside (call c .args .policy .now) (call c .pre .0 .accepted) (rule c) below
 
 cast-at : tie.Need-cast-at Inv-loop μ-loop Inv-rules μ-rules
 cast-at c = search needs
@@ -123,7 +130,7 @@ wide-requires c κs = search needs
 loop-holds : tie.Need-loop-holds Inv-loop μ-loop Inv-rules μ-rules
 loop-holds c =
     let d = c .before .before .before .before .before .before .before in
-    let a = d .before .before .before .before .before .before .before .before .before .args in
+    let a = call d .args in
     let rules = d .before .before .before .rules in (
       omega arith,
       rule-judges (a .policy .now) (a .judging .rules .0) (a .judging .each) (a .q .now) (a .table .now) (a .found .now) (rules .i) (rules .inv .2) (omega arith)
@@ -145,8 +152,8 @@ part-reaches-end c = omega (arith, c .before .before .before .before .before .be
 reaches-requires : tie.Need-reaches-requires Inv-loop μ-loop Inv-rules μ-rules
 reaches-requires c κs =
     let d = c .before .before .before .before .before .before .before .before .before .before .before in
-    let s = d .before .before .before .before .before .before .before .before .before in
-    let i = d .before .before .before .rules .i in
+    let s = call d in
+    let i = rule d in
     let wide = c .before .before .before .before .wide in
     let past-of = c .before .before .before .before .before .before .before .before .past-of in (
       exclusion-ready (s .args .policy .now) (s .pre .0 .accepted) _ i (c .before .before .before .loop .e) (wide .result) (below d) (part-to (s .args .policy .now) (512 * i) 512) (wide .ensures .0) (c .before .before .loop-test .taken),
@@ -157,13 +164,13 @@ reaches-requires c κs =
 module _ (c : tie.After-reaches Inv-loop μ-loop Inv-rules μ-rules) where
   reached-is :
       let d = c .before .before .before .before .before .before .before .before .before .before .before .before in
-      let a = d .before .before .before .before .before .before .before .before .before .args in
-      let i = d .before .before .before .rules .i in
+      let a = call d .args in
+      let i = rule d in
       c .reaches .result ≡ reached (exclusionAt (here (a .policy .now) i) (c .before .before .before .before .loop .e)) (counts (a .judging .each) (a .q .now) (a .table .now) (a .found .now) i)
   reached-is =
       let d = c .before .before .before .before .before .before .before .before .before .before .before .before in
-      let a = d .before .before .before .before .before .before .before .before .before .args in
-      let i = d .before .before .before .rules .i in
+      let a = call d .args in
+      let i = rule d in
       let past-of = c .before .before .before .before .before .before .before .before .before .past-of in
       c .reaches .ensures (pastBy (a .judging .each) (a .q .now) i (a .table .now) (a .found .now))
       (rw (sub-zero (2 * past-of .result)) (past-of .ensures .1))
@@ -178,8 +185,8 @@ loop-less c = search needs
 loop-again : tie.Need-loop-again Inv-loop μ-loop Inv-rules μ-rules
 loop-again c =
     let d = c .before .before .before .before .before .before .before .before .before .before .before .before .before in
-    let a = d .before .before .before .before .before .before .before .before .before .args in
-    let i = d .before .before .before .rules .i in
+    let a = call d .args in
+    let i = rule d in
     let l = c .before .before .before .before .before .loop in
     let taken = c .before .before .before .before .loop-test .taken in (
       omega arith,
@@ -196,7 +203,7 @@ rules-less-2 c = search needs
 rules-again-2 : tie.Need-rules-again-2 Inv-loop μ-loop Inv-rules μ-rules
 rules-again-2 c =
     let d = c .before .before .before .before .before .before .before .before .before in
-    let a = d .before .before .before .before .before .before .before .before .before .args in
+    let a = call d .args in
     let rules = d .before .before .before .rules in
     let i = rules .i in
     let l = c .before .loop in (
@@ -219,9 +226,9 @@ same-length-2 c = search needs
 returns-2 : tie.Need-returns-2 Inv-loop μ-loop Inv-rules μ-rules
 returns-2 c =
     let d = c .before .before .before .before .before .before .before .before .before .before .before .before .before in
-    let s = d .before .before .before .before .before .before .before .before .before in
+    let s = call d in
     let a = s .args in
-    let i = d .before .before .before .rules .i in
+    let i = rule d in
     let l = c .before .before .before .before .before .loop in
     let wide = c .before .before .before .before .before .before .wide in
     let taken = c .before .before .before .before .loop-test .taken in

@@ -7,7 +7,7 @@ use mathlib.Core.Path.{_≡_, ap, _∙_}
 use lib.ListN.{length-take}
 use Rattle.words.specs.Bytes.{bit}
 use Rattle.format.specs.Policy.{policyOf}
-use Rattle.format.specs.Place.{recordsHere}
+use Rattle.format.specs.Records.{recordsHere}
 use Rattle.judge.specs.NewTable.{openIn}
 use Rattle.matching.specs.Sets.{judgingIn}
 use Rattle.history.proofs.Turns.{room-few}

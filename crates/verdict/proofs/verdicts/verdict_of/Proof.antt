@@ -4,7 +4,7 @@ use mathlib.Core.Path.{_≡_, sym, _∙_}
 use mathlib.Core.Bool.{true}
 use borrow.Author.Tests.{not-true, not-false, eqb-true}
 use Rattle.format.specs.Policy.{policyOf}
-use Rattle.format.specs.Place.{recordsHere}
+use Rattle.format.specs.Records.{recordsHere}
 use Rattle.judge.specs.Verdict.{permitted as permittedBy}
 use Rattle.verdict.proofs.Judged.{refused-some, verdict-refused, verdict-silent, effect-silent}
 use borrow.Author.Needs.{needs}
@@ -31,9 +31,12 @@ returns c =
       effect-is = λ h. absurd (refused-some h);
     }
 
--- step 1 lets it pass
+-- the call, from behind step 1, which lets it pass
+abbrev call : tie.Else1 → tie.Start
+call c = c .before .before .before .before .before .before
+
 module _ (c : tie.Else1) where
-  passes : permittedBy (policyOf (c .before .before .before .before .before .before .args .policy .now)) (c .before .before .before .before .before .before .args .q .now) ≡ true
+  passes : permittedBy (policyOf (call c .args .policy .now)) (call c .args .q .now) ≡ true
   passes = let permitted = c .before .permitted in sym (permitted .ensures) ∙ not-false (permitted .result) (c .if1 .left)
 
 match-rules-requires : tie.Need-match-rules-requires
@@ -47,29 +50,32 @@ no-effect-requires-2 c κs = search needs
 
 returns-2 : tie.Need-returns-2
 returns-2 c =
-    let a = c .before .before .before .before .before .before .before .before .before .before .args in
+    let one = c .before .before .before .before in
+    let a = call one .args in
     let matched = c .before .before .before .match-rules in
     let is-empty = c .before .before .is-empty in
     let rs = recordsHere (a .table .now) (a .n) in
     let nowhere = eqb-true (matched .result .fitting .0) 0 (sym (is-empty .ensures) ∙ c .before .if2 .taken) in
     record {
-      faults = verdict-silent (a .policy .now) (a .q .now) (matched .result .fitting .0) (matched .ensures .fitting-are) rs nowhere (passes (c .before .before .before .before));
-      each-is = c .before .before .before .before .before .before .each-of .ensures;
+      faults = verdict-silent (a .policy .now) (a .q .now) (matched .result .fitting .0) (matched .ensures .fitting-are) rs nowhere (passes one);
+      each-is = one .before .before .each-of .ensures;
       effect-is = λ h. effect-silent (a .policy .now) (a .q .now) (matched .result .fitting .0) (matched .ensures .fitting-are) rs nowhere _ (c .no-effect2 .ensures .0) (c .no-effect2 .ensures .1);
     }
 
 judged-few-requires : tie.Need-judged-few-requires
 judged-few-requires c κs =
-    let p = c .before .before .before .before .before .before .before .before .before .before .pre in
-    ((p .0 .accepted, passes (c .before .before .before .before)), ((c .before .before .before .match-rules .ensures, c .before .before .before .before .before .before .each-of .ensures), ((p .1 .0, c .if3 .taken), p .1 .1)))
+    let one = c .before .before .before .before in
+    let p = call one .pre in
+    ((p .0 .accepted, passes one), ((c .before .before .before .match-rules .ensures, one .before .before .each-of .ensures), ((p .1 .0, c .if3 .taken), p .1 .1)))
 
 returns-3 : tie.Need-returns-3
 returns-3 c = search needs
 
 judged-many-requires : tie.Need-judged-many-requires
 judged-many-requires c κs =
-    let p = c .before .before .before .before .before .before .before .before .before .before .pre in
-    ((p .0 .accepted, passes (c .before .before .before .before)), ((c .before .before .before .match-rules .ensures, c .before .before .before .before .before .before .each-of .ensures), (p .1 .0, p .1 .1)))
+    let one = c .before .before .before .before in
+    let p = call one .pre in
+    ((p .0 .accepted, passes one), ((c .before .before .before .match-rules .ensures, one .before .before .each-of .ensures), (p .1 .0, p .1 .1)))
 
 returns-4 : tie.Need-returns-4
 returns-4 c = search needs

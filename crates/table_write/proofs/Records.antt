@@ -1,4 +1,4 @@
--- Where a table's records stand: the places lie in the table and apart from each other, so a record that is put at one place changes no other
+-- Where a table's records stand: they lie in the table and apart from each other, so a record that is put changes no other
 -- record, and no block but its own; and the records of a block are the table's, fifteen at a time.
 -- Assumes nothing.
 use Prim.Native.Nat.{ℕ, _+_, _*_, _/_, _%_, _≤_, _<_}
@@ -20,7 +20,7 @@ use Rattle.word_laws.proofs.Parts.{part-part, u32At-part}
 use Rattle.format.specs.Layout.{blockBytes, blockRecords, recordsAt, recordBytes, requestBytes, capacity}
 use Rattle.format.specs.Block.{block}
 use Rattle.format.specs.Table.{Record, recordAt, recordImage, tableImage}
-use Rattle.format.specs.Place.{recordPlace, recordFrom, recordHere, recordsHere}
+use Rattle.format.specs.Records.{recordStart, recordFrom, recordHere, recordsHere}
 use Rattle.table_write.specs.Writing.{over, countIn}
 use Rattle.format_laws.proofs.RecordImage.{Whole, record-of-image}
 use Rattle.format_laws.proofs.BlockImage.{noRecord, record-read}
@@ -32,18 +32,18 @@ use Rattle.table_write.proofs.Parts.{part-before, part-behind, part-her
 -- ---- the places
 
 -- a record's bytes lie in the table
-pub place-inside : (b i : ℕ) → i < capacity b → recordPlace i + recordBytes ≤ blockBytes * b
-place-inside b i h = omega arith
+pub record-inside : (b i : ℕ) → i < capacity b → recordStart i + recordBytes ≤ blockBytes * b
+record-inside b i h = omega arith
 
 -- and those of two records do not meet
-pub places-apart : (i j : ℕ) → i < j → recordPlace i + recordBytes ≤ recordPlace j
-places-apart i j h = omega arith
+pub records-apart : (i j : ℕ) → i < j → recordStart i + recordBytes ≤ recordStart j
+records-apart i j h = omega arith
 
 -- place i of block k
-pub place-in-block : (k i : ℕ) → i < blockRecords → recordPlace (blockRecords * k + i) ≡ blockBytes * k + (recordsAt + recordBytes * i)
-place-in-block k i h = omega arith
+pub record-in-block : (k i : ℕ) → i < blockRecords → recordStart (blockRecords * k + i) ≡ blockBytes * k + (recordsAt + recordBytes * i)
+record-in-block k i h = omega arith
 
--- ---- the record at a place
+-- ---- the record at a byte
 
 -- the record of 32 bytes
 abbrev recordOf : List ℕ → Record
@@ -64,7 +64,7 @@ record-same s s′ at e = record-from s′ at ∙ ap recordOf e ∙ sym (record-
 pub here-in-block : (s : List ℕ) (k i : ℕ) → i < blockRecords → recordHere s (blockRecords * k + i) ≡ recordAt (block s k) i
 unfolding recordAt
 here-in-block s k i h =
-    ap (recordFrom s) (place-in-block k i h)
+    ap (recordFrom s) (record-in-block k i h)
     ∙ record-from s (blockBytes * k + (recordsAt + recordBytes * i))
     ∙ ap recordOf (sym (part-part s (blockBytes * k) blockBytes (recordsAt + recordBytes * i) recordBytes (omega arith)))
 
@@ -80,11 +80,11 @@ chunk-here s n k =
 
 module _ (s : List ℕ) (b : ℕ) (long : length s ≡ blockBytes * b) where
   pub length-request : (i : ℕ) → i < capacity b → length (recordHere s i .request) ≡ requestBytes
-  length-request i h = length-take-le requestBytes (drop (recordPlace i) s) (rw length-drop (omega arith))
+  length-request i h = length-take-le requestBytes (drop (recordStart i) s) (rw length-drop (omega arith))
 
   pub here-whole : Every Byte s → (i : ℕ) → i < capacity b → Whole (recordHere s i)
   here-whole bytes i h =
-      record { request-length = length-request i h; marks-fit = u32At-below s bytes (recordPlace i + requestBytes) (omega arith) }
+      record { request-length = length-request i h; marks-fit = u32At-below s bytes (recordStart i + requestBytes) (omega arith) }
 
   pub records-whole : Every Byte s → (n : ℕ) → n ≤ capacity b → Every Whole (recordsHere s n)
   unfolding recordsHere
@@ -119,34 +119,34 @@ image-here t b rs ws fit =
 
 -- the table with a record at place j
 abbrev pub recordPut : List ℕ → ℕ → List ℕ → ℕ → List ℕ
-recordPut s j q m = over s (recordPlace j) recordBytes (q ++ bytes4 m)
+recordPut s j q m = over s (recordStart j) recordBytes (q ++ bytes4 m)
 
 module _ (s : List ℕ) (b : ℕ) (long : length s ≡ blockBytes * b) (j : ℕ) (inside : j < capacity b) (q : List ℕ) (sized : length q ≡ requestBytes)
     (m : ℕ) where
   put-length : length (q ++ bytes4 m) ≡ recordBytes
   put-length = rw (length-append, sized)
 
-  put-fits : recordPlace j + recordBytes ≤ length s
+  put-fits : recordStart j + recordBytes ≤ length s
   put-fits = omega arith
 
   pub length-put : length (recordPut s j q m) ≡ length s
-  length-put = length-over s (recordPlace j) recordBytes (q ++ bytes4 m) put-length put-fits
+  length-put = length-over s (recordStart j) recordBytes (q ++ bytes4 m) put-length put-fits
 
   pub here-put : m < 4294967296 → recordHere (recordPut s j q m) j ≡ record { request = q; marks = m }
   unfolding recordImage
   here-put small =
-      record-from (recordPut s j q m) (recordPlace j)
-      ∙ ap recordOf (part-here s (recordPlace j) recordBytes (q ++ bytes4 m) put-length put-fits)
+      record-from (recordPut s j q m) (recordStart j)
+      ∙ ap recordOf (part-here s (recordStart j) recordBytes (q ++ bytes4 m) put-length put-fits)
       ∙ record-of-image (record { request = q; marks = m }) (record { request-length = sized; marks-fit = small })
 
   pub here-kept : (i : ℕ) → (i ≡ j → ⊥) → recordHere (recordPut s j q m) i ≡ recordHere s i
-  here-kept i apart = record-same s (recordPut s j q m) (recordPlace i) (go (decLt i j))
+  here-kept i apart = record-same s (recordPut s j q m) (recordStart i) (go (decLt i j))
     where
-      go : Dec (i < j) → part (recordPut s j q m) (recordPlace i) recordBytes ≡ part s (recordPlace i) recordBytes
+      go : Dec (i < j) → part (recordPut s j q m) (recordStart i) recordBytes ≡ part s (recordStart i) recordBytes
       go (yes l) =
-          part-before s (recordPlace j) recordBytes (q ++ bytes4 m) put-length put-fits (recordPlace i) recordBytes (places-apart i j l)
+          part-before s (recordStart j) recordBytes (q ++ bytes4 m) put-length put-fits (recordStart i) recordBytes (records-apart i j l)
       go (no g) =
-          part-behind s (recordPlace j) recordBytes (q ++ bytes4 m) put-length put-fits (recordPlace i) recordBytes (places-apart j i (omega arith))
+          part-behind s (recordStart j) recordBytes (q ++ bytes4 m) put-length put-fits (recordStart i) recordBytes (records-apart j i (omega arith))
 
   -- the records before it stay, and with it there is one more
   pub records-kept : (n : ℕ) → n ≤ j → recordsHere (recordPut s j q m) n ≡ recordsHere s n
@@ -164,6 +164,6 @@ module _ (s : List ℕ) (b : ℕ) (long : length s ≡ blockBytes * b) (j : ℕ)
     where
       go : Dec (k < j / blockRecords) → block (recordPut s j q m) k ≡ block s k
       go (yes l) =
-          part-before s (recordPlace j) recordBytes (q ++ bytes4 m) put-length put-fits (blockBytes * k) blockBytes (omega arith)
+          part-before s (recordStart j) recordBytes (q ++ bytes4 m) put-length put-fits (blockBytes * k) blockBytes (omega arith)
       go (no g) =
-          part-behind s (recordPlace j) recordBytes (q ++ bytes4 m) put-length put-fits (blockBytes * k) blockBytes (omega arith)
+          part-behind s (recordStart j) recordBytes (q ++ bytes4 m) put-length put-fits (blockBytes * k) blockBytes (omega arith)

@@ -8,15 +8,15 @@ use Rattle.format.specs.Layout.{blockBytes, blockRecords, recordsAt, rec
 use Rattle.format.specs.Table.{Record}
 
 -- the byte at which record i of a table begins, from 0
-abbrev pub recordPlace : ℕ → ℕ
-recordPlace i = blockBytes * (i / blockRecords) + recordsAt + recordBytes * (i % blockRecords)
+abbrev pub recordStart : ℕ → ℕ
+recordStart i = blockBytes * (i / blockRecords) + recordsAt + recordBytes * (i % blockRecords)
 
 -- the record at a byte, and record i
 abbrev pub recordFrom : List ℕ → ℕ → Record
 recordFrom s at = record { request = part s at requestBytes; marks = u32At s (at + requestBytes) }
 
 abbrev pub recordHere : List ℕ → ℕ → Record
-recordHere s i = recordFrom s (recordPlace i)
+recordHere s i = recordFrom s (recordStart i)
 
 -- the first n records
 unfoldable pub recordsHere : List ℕ → ℕ → List Record
