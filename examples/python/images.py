@@ -76,3 +76,10 @@ def records(table):
             user, active, operation, target, *levels, marks = struct.unpack_from("<IIHH8HI", table, at)
             context = [pair for pair in zip(levels[::2], levels[1::2]) if pair[0]]
             yield Record(user, members(active), (operation, target), context, members(marks))
+
+
+def larger(table, blocks):
+    """The same records in a table of more blocks."""
+    bodies = [table[at + 8:at + 504] for at in range(0, len(table), 512)]
+    bodies += [bytes(8) + table[16:24]] * (blocks - len(bodies))
+    return bytearray(b"".join(sealed(struct.pack("<IHH", 2, i, blocks) + body) for i, body in enumerate(bodies)))
