@@ -79,6 +79,7 @@ static void print(sod_reply reply)
         printf("grant %u %u %u\n", reply.first, reply.second, reply.third);
     else
         printf("refuse %u %u %u\n", reply.number, reply.first, reply.second);
+    fflush(stdout);
 }
 
 int main(int argc, char **argv)

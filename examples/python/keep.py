@@ -59,9 +59,9 @@ def main(folder, *words):
         return
     while request := sys.stdin.buffer.read(28):
         try:
-            print(decide(folder, request))
+            print(decide(folder, request), flush=True)
         except sod.Refused as refusal:
-            print(refusal)
+            print(refusal, flush=True)
 
 
 if __name__ == "__main__":
