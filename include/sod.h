@@ -55,8 +55,8 @@
  *     9        exclusions, 1 to 8
  *     10, 11   1 if a first, a last step is set, else 0
  *     16-47    four levels of 8: type (2, from 1), mark (1), zero (1), value (2), zero (2)
- *              mark 1: this value only (from 1); 2: every value together; 3: each value by itself
- *              (value 0); levels past the depth are zero
+ *              mark 1, fixed: this value only (from 1); 2, every: all values together; 3, each: each
+ *              value by itself (value 0 for 2 and 3); levels past the depth are zero
  *     48-51    first step: operation (2), target (2), from 1; zero if not set
  *     52-55    last step, likewise; not equal to the first
  *     56-343   eight exclusions of 36: kind (1), m (1), n (1), zero (1), eight members of 4;
