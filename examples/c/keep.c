@@ -7,6 +7,7 @@
  * examples/python/keep.py does the same with the same files; both may be at work on one folder.
  */
 #define _DEFAULT_SOURCE
+#include <errno.h>
 #include <fcntl.h>
 #include <stdio.h>
 #include <stdlib.h>
@@ -20,10 +21,12 @@
 static uint8_t policy[SOD_MOST_POLICY_BLOCKS * SOD_BLOCK + 1];
 static uint8_t table[SOD_MOST_TABLE_BLOCKS * SOD_BLOCK + 1];
 
-static void stop(const char *what)
+static void need(int holds, const char *what)
 {
-    perror(what);
-    exit(1);
+    if (!holds) {
+        perror(what);
+        exit(1);
+    }
 }
 
 static size_t load(int folder, const char *name, uint8_t *into, size_t room)
@@ -31,12 +34,10 @@ static size_t load(int folder, const char *name, uint8_t *into, size_t room)
     size_t length = 0;
     ssize_t got;
     int file = openat(folder, name, O_RDONLY);
-    if (file < 0)
-        stop(name);
+    need(file >= 0, name);
     while ((got = read(file, into + length, room - length)) > 0)
         length += (size_t)got;
-    if (got < 0)
-        stop(name);
+    need(got == 0, name);
     close(file);
     return length;
 }
@@ -45,19 +46,16 @@ static size_t load(int folder, const char *name, uint8_t *into, size_t room)
 static void store(int folder, size_t length)
 {
     int file = openat(folder, "table.new", O_WRONLY | O_CREAT | O_TRUNC, 0600);
-    if (file < 0 || write(file, table, length) != (ssize_t)length || fsync(file) != 0 || close(file) != 0 ||
-        renameat(folder, "table.new", folder, "table") != 0 || fsync(folder) != 0)
-        stop("table");
+    need(file >= 0 && write(file, table, length) == (ssize_t)length && fsync(file) == 0 && close(file) == 0 &&
+         renameat(folder, "table.new", folder, "table") == 0 && fsync(folder) == 0, "table.new");
 }
 
 /* Only where there is no table: a fresh one has forgotten everything. */
 static sod_reply make_fresh(int folder, size_t policy_len, size_t blocks)
 {
-    if (faccessat(folder, "table", F_OK, 0) == 0) {
-        fprintf(stderr, "table: is there already\n");
-        exit(1);
-    }
     size_t length = blocks <= SOD_MOST_TABLE_BLOCKS ? blocks * SOD_BLOCK : sizeof table;
+    errno = EEXIST;
+    need(faccessat(folder, "table", F_OK, 0) != 0, "table");
     sod_reply reply = sod_fresh_table(policy, policy_len, table, length);
     if (reply.number == 0)
         store(folder, length);
@@ -73,45 +71,36 @@ static sod_reply decide(int folder, size_t policy_len, const uint8_t *request, s
     return reply;
 }
 
-static void print(sod_reply reply)
-{
-    if (reply.number == 0)
-        printf("grant %u %u %u\n", reply.first, reply.second, reply.third);
-    else
-        printf("refuse %u %u %u\n", reply.number, reply.first, reply.second);
-    fflush(stdout);
-}
-
 int main(int argc, char **argv)
 {
-    if (argc != 2 && !(argc == 4 && strcmp(argv[2], "fresh") == 0)) {
-        fprintf(stderr, "keep FOLDER [fresh BLOCKS]\n");
-        return 2;
-    }
-    /* The lock is a file of its own: the table's file is another one after each grant. */
-    int folder = open(argv[1], O_RDONLY | O_DIRECTORY);
-    int lock = folder < 0 ? -1 : openat(folder, "lock", O_RDWR | O_CREAT, 0600);
-    if (lock < 0)
-        stop(argv[1]);
-    size_t policy_len = load(folder, "policy", policy, sizeof policy);
-
-    if (argc == 4) {
-        if (flock(lock, LOCK_EX) != 0)
-            stop("lock");
-        sod_reply reply = make_fresh(folder, policy_len, strtoul(argv[3], NULL, 10));
-        if (reply.number != 0)
-            print(reply);
-        return reply.number != 0;
-    }
     uint8_t request[SOD_REQUEST];
     size_t length;
+    int making = argc == 4 && strcmp(argv[2], "fresh") == 0;
+    errno = EINVAL;
+    need(argc == 2 || making, "keep FOLDER [fresh BLOCKS]");
+    int folder = open(argv[1], O_RDONLY | O_DIRECTORY);
+    need(folder >= 0, argv[1]);
+    /* The lock is a file of its own: the table's file is another one after each grant. */
+    int lock = openat(folder, "lock", O_RDWR | O_CREAT, 0600);
+    need(lock >= 0, "lock");
+    size_t policy_len = load(folder, "policy", policy, sizeof policy);
+
+    if (making) {
+        need(flock(lock, LOCK_EX) == 0, "lock");
+        sod_reply reply = make_fresh(folder, policy_len, strtoul(argv[3], NULL, 10));
+        if (reply.number != 0)
+            fprintf(stderr, "refuse %u %u %u\n", reply.number, reply.first, reply.second);
+        return reply.number != 0;
+    }
     while ((length = fread(request, 1, sizeof request, stdin)) > 0) {
-        if (flock(lock, LOCK_EX) != 0)
-            stop("lock");
+        need(flock(lock, LOCK_EX) == 0, "lock");
         sod_reply reply = decide(folder, policy_len, request, length);
-        if (flock(lock, LOCK_UN) != 0)
-            stop("lock");
-        print(reply); /* a grant is told only once it is stored */
+        need(flock(lock, LOCK_UN) == 0, "lock");
+        if (reply.number == 0) /* told only once it is stored */
+            printf("grant %u %u %u\n", reply.first, reply.second, reply.third);
+        else
+            printf("refuse %u %u %u\n", reply.number, reply.first, reply.second);
+        fflush(stdout);
     }
     return 0;
 }
