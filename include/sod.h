@@ -7,9 +7,19 @@
  * nothing and opens nothing: all that it knows is in the bytes that it is lent. Of its surroundings it
  * needs `memset` and a stack, nothing else.
  *
- * Build with target/staticlib/libsod.a (made by `rt staticlib sod`, x86-64):
+ * docs/GUIDE.md tells what a policy means, and what to know before a grant is relied on: separation
+ * can be lost outside the engine (a context with its levels in another order, two copies of a table)
+ * in ways that no number tells. examples/c/session.c writes a policy and puts requests to it;
+ * examples/c/keep.c keeps a table in a file.
  *
- *     cc -Iinclude program.c target/staticlib/libsod.a
+ * Build, on x86-64 Linux, in the root of the repository:
+ *
+ *     rt staticlib sod
+ *     gcc -Iinclude examples/c/session.c target/staticlib/libsod.a -o target/session
+ *
+ * or, for a language that loads libraries, one that is shared:
+ *
+ *     gcc -shared -o target/libsod.so -Wl,--whole-archive target/staticlib/libsod.a -Wl,--no-whole-archive
  *
  * WHAT THE CALLER OWES
  *
@@ -45,8 +55,8 @@
  *     9        exclusions, 1 to 8
  *     10, 11   1 if a first, a last step is set, else 0
  *     16-47    four levels of 8: type (2, from 1), mark (1), zero (1), value (2), zero (2)
- *              mark 1: this value only (from 1); 2: every value together; 3: each value by itself
- *              (value 0); levels past the depth are zero
+ *              mark 1, fixed: this value only (from 1); 2, every: all values together; 3, each: each
+ *              value by itself (value 0 for 2 and 3); levels past the depth are zero
  *     48-51    first step: operation (2), target (2), from 1; zero if not set
  *     52-55    last step, likewise; not equal to the first
  *     56-343   eight exclusions of 36: kind (1), m (1), n (1), zero (1), eight members of 4;
@@ -79,6 +89,20 @@
 
 #include <stddef.h>
 #include <stdint.h>
+
+/* The version of this interface. */
+#define SOD_VERSION "0.1.0"
+
+/* Whoever drops a reply is warned: a refusal that nobody reads is a step taken all the same. */
+#if defined(__cplusplus) && __cplusplus >= 201703L
+#define SOD_NODISCARD [[nodiscard]]
+#elif defined(__STDC_VERSION__) && __STDC_VERSION__ > 201710L && defined(__has_c_attribute)
+#define SOD_NODISCARD [[nodiscard]]
+#elif defined(__GNUC__)
+#define SOD_NODISCARD __attribute__((warn_unused_result))
+#else
+#define SOD_NODISCARD
+#endif
 
 /* The stack that a call takes at the most, in bytes. */
 #define SOD_STACK 24576
@@ -146,9 +170,11 @@ enum {
 };
 
 /* Checks a policy. Refused by 1 to 6. */
+SOD_NODISCARD
 sod_reply sod_check_policy(const uint8_t *policy, size_t policy_len);
 
 /* Checks a table under a policy. Refused by 1 to 6, 11 to 15. */
+SOD_NODISCARD
 sod_reply sod_check_table(const uint8_t *policy, size_t policy_len,
                           const uint8_t *table, size_t table_len);
 
@@ -156,6 +182,7 @@ sod_reply sod_check_table(const uint8_t *policy, size_t policy_len,
  * Makes a table of no records in the lent buffer, whatever it held. Its length says how many blocks
  * the table has. Refused by 1 to 6, 11.
  */
+SOD_NODISCARD
 sod_reply sod_fresh_table(const uint8_t *policy, size_t policy_len,
                           uint8_t *table, size_t table_len);
 
@@ -166,6 +193,7 @@ sod_reply sod_fresh_table(const uint8_t *policy, size_t policy_len,
  *
  * Policy and table are checked in every call, so no call is needed before it.
  */
+SOD_NODISCARD
 sod_reply sod_decide(const uint8_t *policy, size_t policy_len,
                      uint8_t *table, size_t table_len,
                      const uint8_t *request, size_t request_len);

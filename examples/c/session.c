@@ -1,7 +1,7 @@
 /*
- * The sample session of document 01 through the C interface: prints its fifteen lines.
+ * The sample session: prints its fifteen lines, which docs/GUIDE.md goes through one by one.
  *
- *     cc -Iinclude examples/c/session.c target/staticlib/libsod.a -o session && ./session
+ *     gcc -Iinclude examples/c/session.c target/staticlib/libsod.a -o target/session && target/session
  */
 #include <stdio.h>
 #include <string.h>

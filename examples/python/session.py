@@ -1,71 +1,58 @@
-"""The sample session of document 01 from Python: prints its fifteen lines.
+"""The sample session: prints its fifteen lines, which docs/GUIDE.md goes through one by one.
 
-    python3 examples/python/session.py target/outside/libsod.so
+    python3 examples/python/session.py
 """
-import ctypes
-import struct
-import sys
+import images
+import sod
 
+DEPOT, JOB = 1, 2
+ADJUSTER, CHECKER, COUNTER = 1, 2, 3
+ADJUST, CHECK, CLOSE, BEGIN_COUNT, END_COUNT = [(operation, 1) for operation in (1, 2, 4, 5, 6)]
 
-class Reply(ctypes.Structure):
-    _fields_ = [(name, ctypes.c_uint32) for name in ("number", "first", "second", "third")]
-
-
-def block(kind, number, total, fields):
-    """A block of a policy; fields are (offset, bytes)."""
-    bytes_ = bytearray(504)
-    for at, field in [(0, struct.pack("<IHH", kind, number, total)), *fields]:
-        bytes_[at:at + len(field)] = field
-    a, b = 1, 0
-    for word, in struct.iter_unpack("<I", bytes_):
-        a = (a + word) % 2**32
-        b = (b + a) % 2**32
-    return bytes(bytes_) + struct.pack("<II", a, b)
-
-
-def shorts(*numbers):
-    return struct.pack(f"<{len(numbers)}H", *numbers)
-
-
-def request(user, roles, operation, *values):
-    """Depot and job are context types 1 and 2; every target is 1."""
-    levels = [number for level in enumerate(values, 1) for number in level]
-    active = sum(1 << role - 1 for role in roles)
-    return struct.pack("<II", user, active) + shorts(operation, 1, *levels).ljust(20, b"\0")
-
-
-POLICY = (
-    block(1, 0, 3, [(8, bytes([2, 2, 0, 1])), (16, shorts(1, 2)), (24, shorts(2, 3)),
-                    (52, shorts(4, 1)),
-                    (56, bytes([2, 2, 3, 0]) + shorts(1, 1, 2, 1, 2, 1)),
-                    (92, bytes([1, 2, 2, 0]) + shorts(1, 0, 2, 0))])
-    + block(1, 1, 3, [(8, bytes([1, 1, 1, 1])), (16, shorts(1, 3)),
-                      (48, shorts(5, 1, 6, 1)),
-                      (56, bytes([1, 2, 2, 0]) + shorts(1, 0, 3, 0))])
-    + block(3, 2, 3, [(8, shorts(4)),
-                      (16, shorts(1, 1, 1, 0, 2, 2, 1, 0, 2, 4, 1, 0, 3, 5, 1, 0))])
+POLICY = images.policy(
+    rules=[
+        images.rule([images.level(DEPOT, images.EVERY), images.level(JOB, images.EACH)],
+                    [images.privileges(2, ADJUST, CHECK, CHECK), images.roles(2, ADJUSTER, CHECKER)],
+                    last=CLOSE),
+        images.rule([images.level(DEPOT, images.EACH)], [images.roles(2, ADJUSTER, COUNTER)],
+                    first=BEGIN_COUNT, last=END_COUNT),
+    ],
+    permissions=[(ADJUSTER, ADJUST), (CHECKER, CHECK), (CHECKER, CLOSE), (COUNTER, BEGIN_COUNT)],
 )
 
-SESSION = [
-    (7, {1}, 1, 5, 90), (7, {2}, 2, 5, 90), (7, {2}, 2, 6, 90), (7, {2}, 2, 5, 91),
-    (8, {2}, 2, 5, 90), (8, {2}, 2, 5, 90), (8, {1}, 2, 5, 90), (9, {1, 2}, 1, 5, 90),
-    (8, {2}, 4, 5, 90), (7, {2}, 2, 5, 90), (7, {2}, 2, 5), (10, {3}, 5, 5),
-    (10, {1}, 1, 5, 92), (11, {1}, 1, 5, 92), (12, {2}, 4, 5, 92),
-]
 
-# From here on it is about calling the engine.
-sod = ctypes.CDLL(sys.argv[1])
-lent, size = ctypes.c_char_p, ctypes.c_size_t
-sod.sod_fresh_table.argtypes = [lent, size, lent, size]
-sod.sod_decide.argtypes = [lent, size, lent, size, lent, size]
-sod.sod_fresh_table.restype = sod.sod_decide.restype = Reply
+def at(depot, job=None):
+    return [(DEPOT, depot)] + ([(JOB, job)] if job else [])
 
-table = ctypes.create_string_buffer(512)
-fresh = sod.sod_fresh_table(POLICY, len(POLICY), table, 512)
-assert (fresh.number, fresh.first) == (0, 15), "the policy is refused"
-for i, asked in enumerate(SESSION, 1):
-    r = sod.sod_decide(POLICY, len(POLICY), table, 512, request(*asked), 28)
-    if r.number == 0:
-        print(i, "grant", r.first, r.second, r.third)
-    else:
-        print(i, "refuse", r.number, r.first, r.second)
+
+SESSION = [images.request(*asked) for asked in [
+    (7, {ADJUSTER}, ADJUST, at(5, 90)),
+    (7, {CHECKER}, CHECK, at(5, 90)),
+    (7, {CHECKER}, CHECK, at(6, 90)),
+    (7, {CHECKER}, CHECK, at(5, 91)),
+    (8, {CHECKER}, CHECK, at(5, 90)),
+    (8, {CHECKER}, CHECK, at(5, 90)),
+    (8, {ADJUSTER}, CHECK, at(5, 90)),
+    (9, {ADJUSTER, CHECKER}, ADJUST, at(5, 90)),
+    (8, {CHECKER}, CLOSE, at(5, 90)),
+    (7, {CHECKER}, CHECK, at(5, 90)),
+    (7, {CHECKER}, CHECK, at(5)),
+    (10, {COUNTER}, BEGIN_COUNT, at(5)),
+    (10, {ADJUSTER}, ADJUST, at(5, 92)),
+    (11, {ADJUSTER}, ADJUST, at(5, 92)),
+    (12, {CHECKER}, CLOSE, at(5, 92)),
+]]
+
+
+def main():
+    table = sod.fresh_table(POLICY, blocks=1)
+    for number, request in enumerate(SESSION, 1):
+        try:
+            print(number, sod.decide(POLICY, table, request))
+        except sod.Refused as refusal:
+            print(number, refusal)
+    assert sod.check_table(POLICY, table) == len(list(images.records(table)))
+
+
+if __name__ == "__main__":
+    main()

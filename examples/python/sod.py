@@ -1,0 +1,78 @@
+"""The four calls of the engine, from Python. include/sod.h says what each promises.
+
+It loads target/libsod.so, which README.md builds in one command; SOD_LIBRARY in the environment names
+another. A policy and a request are bytes. A table is a bytearray: the engine writes to it, and what cannot
+be written to is a TypeError before the engine is called.
+"""
+import ctypes
+import os
+from collections import namedtuple
+from pathlib import Path
+
+BLOCK = 512
+LIBRARY = Path(__file__).resolve().parents[2] / "target" / "libsod.so"
+
+
+class Grant(namedtuple("Grant", "recorded removed held")):
+    def __str__(self):
+        return "grant {} {} {}".format(*self)
+
+
+class Refused(Exception):
+    """A refusal is raised, so that nobody takes it for a grant."""
+
+    def __init__(self, number, first, second):
+        super().__init__(number, first, second)
+        self.number, self.first, self.second = number, first, second
+
+    def __str__(self):
+        return f"refuse {self.number} {self.first} {self.second}"
+
+
+class Reply(ctypes.Structure):
+    _fields_ = [(name, ctypes.c_uint32) for name in ("number", "first", "second", "third")]
+
+
+# PyDLL and not CDLL: no other thread of Python runs during a call, so none can touch the table.
+_library = ctypes.PyDLL(os.environ.get("SOD_LIBRARY", LIBRARY))
+_READ = [ctypes.c_char_p, ctypes.c_size_t]                     # bytes alone fit
+_WRITE = [ctypes.POINTER(ctypes.c_uint8), ctypes.c_size_t]     # bytes do not
+for _name, _types in [("sod_check_policy", _READ), ("sod_check_table", _READ + _READ),
+                      ("sod_fresh_table", _READ + _WRITE), ("sod_decide", _READ + _WRITE + _READ)]:
+    _function = getattr(_library, _name)
+    _function.argtypes, _function.restype = _types, Reply
+
+
+def _accepted(reply):
+    if reply.number != 0:
+        raise Refused(reply.number, reply.first, reply.second)
+    return reply
+
+
+def _writable(table):
+    return (ctypes.c_uint8 * len(table)).from_buffer(table)
+
+
+def check_policy(policy):
+    """How many rules it has."""
+    return _accepted(_library.sod_check_policy(policy, len(policy))).first
+
+
+def check_table(policy, table):
+    """How many records it holds."""
+    table = bytes(table)
+    return _accepted(_library.sod_check_table(policy, len(policy), table, len(table))).first
+
+
+def fresh_table(policy, blocks):
+    """A table without records, with 15 places in each block."""
+    table = bytearray(BLOCK * blocks)
+    _accepted(_library.sod_fresh_table(policy, len(policy), _writable(table), len(table)))
+    return table
+
+
+def decide(policy, table, request):
+    """A Grant, and the table is brought up to date; or Refused is raised, and the table is as it was."""
+    reply = _accepted(_library.sod_decide(policy, len(policy), _writable(table), len(table),
+                                          request, len(request)))
+    return Grant(reply.first, reply.second, reply.third)
