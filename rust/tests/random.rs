@@ -2,6 +2,7 @@
 //!
 //! Each part goes by a seed and by a number of decisions, never by the clock, so that it does the
 //! same everywhere; and each part fails if an answer that it is there for did not come up often.
+//! Where a list fails, its shortest failing beginning is printed in words.
 //!
 //! The long run, of more than ten million decisions:
 //!
@@ -14,11 +15,11 @@ mod support;
 
 use independent::images::*;
 use independent::judge::fits;
-use independent::register::Register;
 use independent::Reply;
 use support::busy::{Busy, Pool, MET};
 use support::chance::Chance;
 use support::compare::*;
+use support::lists::{shortest, List, Start};
 use support::world::{request_bytes, World};
 
 const SEED: u64 = 2_026;
@@ -57,44 +58,29 @@ fn until(
 /// A list of so many requests in a world, on a table of so many blocks; of a hundred requests some
 /// are `damaged`. Whether anybody has reached m is asked after every `every`-th request.
 fn list(
-    comparing: &mut Comparing,
     chance: &mut Chance,
     world: &World,
     blocks: usize,
     length: usize,
     damaged: usize,
     every: usize,
-) {
-    let policy = &world.image;
-    let mut table = noise(chance, 512 * blocks);
-    let fresh = comparing.fresh_table(policy, &mut table);
-    assert_eq!(fresh, Reply::accept(places(blocks)));
-    let mut register = Register::new(policy, blocks);
-    assert!(table == register.image(), "a fresh table is another");
-
-    let (mut recorded, mut removed) = (0, 0);
+) -> List {
+    let start = Start::Fresh(noise(chance, 512 * blocks));
     let mut request = world.request(chance);
-    for i in 0..length {
-        if chance.percent(95) {
-            request = world.request(chance);
-        }
-        let bytes = request_bytes(chance, &request, damaged);
-        let harmless = register.could_take(&bytes);
-        let reply = comparing.decide(policy, &mut table, &bytes);
-        assert_eq!(reply, register.answer(&bytes), "the register");
-        assert!(table == register.image(), "the register's image is another");
-        if !reply.is_refusal() {
-            assert!(harmless, "somebody has reached m with this step");
-            recorded += reply.first;
-            removed += reply.second;
-            assert_eq!(recorded - removed, reply.third);
-        }
-        if i % every == 0 {
-            assert!(register.nobody_has_reached_m());
-        }
+    let requests = (0..length)
+        .map(|_| {
+            if chance.percent(95) {
+                request = world.request(chance);
+            }
+            request_bytes(chance, &request, damaged)
+        })
+        .collect();
+    List {
+        policy: world.image.clone(),
+        start,
+        requests,
+        every,
     }
-    let held = comparing.check_table(policy, &table);
-    assert_eq!(held, Reply::accept((recorded - removed) as usize));
 }
 
 fn noise(chance: &mut Chance, length: usize) -> Vec<u8> {
@@ -106,18 +92,18 @@ fn small_list(comparing: &mut Comparing, chance: &mut Chance) {
     let accepted = Reply::accept(world.policy.rules.len());
     assert_eq!(comparing.check_policy(&world.image), accepted);
     let (blocks, length) = (chance.from(1, 3), chance.from(0, 200));
-    list(comparing, chance, &world, blocks, length, 4, 1);
+    list(chance, &world, blocks, length, 4, 1).run(comparing);
 }
 
 fn large_list(comparing: &mut Comparing, chance: &mut Chance) {
     let world = World::lenient(chance);
-    list(comparing, chance, &world, 128, 3_000, 1, 100);
+    list(chance, &world, 128, 3_000, 1, 100).run(comparing);
 }
 
 fn middling_list(comparing: &mut Comparing, chance: &mut Chance) {
     let world = World::large(chance);
     let blocks = chance.from(4, 24);
-    list(comparing, chance, &world, blocks, 24 * blocks, 1, 10);
+    list(chance, &world, blocks, 24 * blocks, 1, 10).run(comparing);
 }
 
 fn must_have_seen_in_lists(seen: &Seen, times: usize) {
@@ -162,19 +148,31 @@ fn large_lists() {
 // ---------------------------------------------------------------------------------------------
 // Tables that pass the check, but that no list leads to
 
+/// A list on a table that is given.
+fn list_on(policy: &[u8], table: Vec<u8>, requests: Vec<Vec<u8>>) -> List {
+    List {
+        policy: policy.to_vec(),
+        start: Start::Given(table),
+        requests,
+        every: 1,
+    }
+}
+
 fn strange_table(comparing: &mut Comparing, chance: &mut Chance) {
     let world = World::small(chance);
     let blocks = chance.from(1, 4);
     let count = chance.from(0, places(blocks));
     let records = world.records(chance, count);
-    let mut table = write_table(world.stamp(), &records, blocks);
+    let table = write_table(world.stamp(), &records, blocks);
     let accepted = Reply::accept(records.len());
     assert_eq!(comparing.check_table(&world.image, &table), accepted);
-    for _ in 0..chance.from(1, 30) {
-        let request = world.request(chance);
-        let bytes = request_bytes(chance, &request, 2);
-        comparing.decide(&world.image, &mut table, &bytes);
-    }
+    let requests = (0..chance.from(1, 30))
+        .map(|_| {
+            let request = world.request(chance);
+            request_bytes(chance, &request, 2)
+        })
+        .collect();
+    list_on(&world.image, table, requests).run(comparing);
 }
 
 fn strange_large_table(comparing: &mut Comparing, chance: &mut Chance) {
@@ -182,11 +180,11 @@ fn strange_large_table(comparing: &mut Comparing, chance: &mut Chance) {
     let blocks = chance.from(100, 128);
     let count = places(blocks) - chance.below(20);
     let records = world.records(chance, count);
-    let mut table = write_table(world.stamp(), &records, blocks);
-    for _ in 0..50 {
-        let request = world.request(chance);
-        comparing.decide(&world.image, &mut table, &write_request(&request));
-    }
+    let table = write_table(world.stamp(), &records, blocks);
+    let requests = (0..50)
+        .map(|_| write_request(&world.request(chance)).to_vec())
+        .collect();
+    list_on(&world.image, table, requests).run(comparing);
 }
 
 #[test]
@@ -214,18 +212,20 @@ fn busy_table(comparing: &mut Comparing, chance: &mut Chance) {
     let (policy, stamp) = (&busy.image, busy.stamp());
     let accepted = Reply::accept(busy.policy.rules.len());
     assert_eq!(comparing.check_policy(policy), accepted);
-    let mut table = write_table(stamp, &busy.records, busy.blocks);
+    let table = write_table(stamp, &busy.records, busy.blocks);
     let accepted = Reply::accept(busy.records.len());
     assert_eq!(comparing.check_table(policy, &table), accepted);
-    for _ in 0..chance.from(5, 25) {
-        let request = busy.request(chance);
-        let records = read_table(&busy.policy, stamp, &table, fits);
-        for what in busy.meets(&records.expect("a good table"), &request) {
-            comparing.seen.note(what);
+    let requests: Vec<Request> = (0..chance.from(5, 25))
+        .map(|_| busy.request(chance))
+        .collect();
+    let bytes = requests.iter().map(|one| write_request(one).to_vec());
+    list_on(policy, table, bytes.collect()).run_noting(comparing, |seen, table, i| {
+        let records = read_table(&busy.policy, stamp, table, fits);
+        for what in busy.meets(&records.expect("a good table"), &requests[i]) {
+            seen.note(what);
         }
-        comparing.seen.note(pool.name());
-        comparing.decide(policy, &mut table, &write_request(&request));
-    }
+        seen.note(pool.name());
+    });
 }
 
 fn must_have_seen_in_busy_tables(seen: &Seen, times: usize) {
@@ -463,6 +463,16 @@ fn lengths() {
         assert_eq!(reply.number == 21, length != 28);
     }
     comparing.seen.must_refuse("fresh_table", &[1, 11], 1_000);
+}
+
+/// What is printed of a list that fails ends where it first fails.
+#[test]
+fn shortest_failing_lists() {
+    for whole in 1..40 {
+        for first in 0..=whole {
+            assert_eq!(shortest(whole, |length| length >= first), first);
+        }
+    }
 }
 
 // ---------------------------------------------------------------------------------------------
