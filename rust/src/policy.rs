@@ -128,6 +128,7 @@ impl<'p> Policy<'p> {
     /// assert_eq!(warnings, [Warning::NoLastStep { rule: 1 }]);
     /// # Ok::<(), Box<dyn std::error::Error>>(())
     /// ```
+    #[must_use]
     pub fn lint(&self) -> Vec<Warning> {
         lint(self)
     }

@@ -77,6 +77,7 @@ impl Request {
     }
 
     /// The request's image.
+    #[must_use]
     pub fn to_bytes(&self) -> [u8; Request::LENGTH] {
         let mut bytes = [0; Request::LENGTH];
         put_u32(&mut bytes, 0, self.user.get());

@@ -90,6 +90,29 @@ impl<'p> Policy<'p> {
 impl<'p> Table<'p, '_> {
     /// Decides a request and brings the table up to date. If it is refused, the table stays as it
     /// was. Once it is granted, store the table before the step is taken.
+    ///
+    /// ```
+    /// use hastovimen::*;
+    ///
+    /// let policy = Policy::own("role 1 may do 1 on 1\n".parse::<PolicyBuilder>()?.build()?)?;
+    /// let mut table = policy.new_table(1)?;
+    /// let request: Request = "user 7 in role 1: 1 on 1 at the whole business".parse()?;
+    /// match table.decide(&request) {
+    ///     Ok(grant) => assert!(!grant.recorded), // there is no rule that counts it
+    ///     Err(refusal) => panic!("{refusal}"),
+    /// }
+    /// # Ok::<(), Box<dyn std::error::Error>>(())
+    /// ```
+    ///
+    /// An answer that nobody looks at is warned of:
+    ///
+    /// ```compile_fail
+    /// #![deny(unused_must_use)]
+    /// # use hastovimen::*;
+    /// fn careless(table: &mut Table, request: &Request) {
+    ///     table.decide(request);
+    /// }
+    /// ```
     pub fn decide(&mut self, request: &Request) -> Result<Grant, Refusal> {
         self.decide_bytes(&request.to_bytes())
     }
@@ -110,6 +133,7 @@ impl<'p> Table<'p, '_> {
     }
 
     /// The image, taken out; that of a lent buffer is copied.
+    #[must_use = "the table is gone otherwise"]
     pub fn into_image(self) -> Vec<u8> {
         self.image.into_vec()
     }
