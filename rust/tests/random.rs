@@ -1,5 +1,7 @@
 //! Engine, both independent judges and the full register over lists by chance.
 //!
+//! In a debug build each part but the large lists is a tenth as long.
+//!
 //! Each part goes by a seed and by a number of decisions, never by the clock, so that it does the
 //! same everywhere; and each part fails if an answer that it is there for did not come up often.
 //! Where a list fails, its shortest failing beginning is printed in words.
@@ -19,10 +21,20 @@ use independent::Reply;
 use support::busy::{Busy, Pool, MET};
 use support::chance::Chance;
 use support::compare::*;
+use support::damage::{damage, restamp, telling};
 use support::lists::{shortest, List, Start};
 use support::world::{request_bytes, World};
 
 const SEED: u64 = 2_026;
+
+/// So many in a release build; a tenth in a debug build, for a plain `cargo test`.
+const fn full(number: usize) -> usize {
+    if cfg!(debug_assertions) {
+        number / 10
+    } else {
+        number
+    }
+}
 
 /// Says where chance stood when a test fails.
 struct Where(String);
@@ -122,8 +134,14 @@ fn must_have_seen_in_large_lists(seen: &Seen, times: usize) {
 #[test]
 fn small_lists() {
     let mut comparing = Comparing::new();
-    until(&mut comparing, "small lists", SEED, 1_000_000, small_list);
-    must_have_seen_in_lists(&comparing.seen, 5_000);
+    until(
+        &mut comparing,
+        "small lists",
+        SEED,
+        full(1_000_000),
+        small_list,
+    );
+    must_have_seen_in_lists(&comparing.seen, full(5_000));
     println!("{}", comparing.seen);
 }
 
@@ -194,12 +212,18 @@ fn strange_tables() {
         &mut comparing,
         "strange tables",
         SEED,
-        300_000,
+        full(300_000),
         strange_table,
     );
-    must_have_seen_in_lists(&comparing.seen, 1_000);
+    must_have_seen_in_lists(&comparing.seen, full(1_000));
     let large = strange_large_table;
-    until(&mut comparing, "strange large tables", SEED, 500, large);
+    until(
+        &mut comparing,
+        "strange large tables",
+        SEED,
+        full(500),
+        large,
+    );
     println!("{}", comparing.seen);
 }
 
@@ -238,97 +262,19 @@ fn must_have_seen_in_busy_tables(seen: &Seen, times: usize) {
 #[test]
 fn many_privileges() {
     let mut comparing = Comparing::new();
-    until(&mut comparing, "busy tables", SEED, 25_000, busy_table);
-    must_have_seen_in_busy_tables(&comparing.seen, 50);
+    until(
+        &mut comparing,
+        "busy tables",
+        SEED,
+        full(25_000),
+        busy_table,
+    );
+    must_have_seen_in_busy_tables(&comparing.seen, full(50));
     println!("{}", comparing.seen);
 }
 
 // ---------------------------------------------------------------------------------------------
 // Damaged images
-
-/// A number that stands on one side of some limit.
-fn telling(chance: &mut Chance, old: u8) -> u8 {
-    const LIMITS: [u8; 16] = [0, 1, 2, 3, 4, 5, 7, 8, 9, 15, 16, 32, 33, 61, 62, 255];
-    match chance.below(4) {
-        0 => old ^ 1 << chance.below(8),
-        1 => old.wrapping_add(1),
-        _ => chance.pick(&LIMITS),
-    }
-}
-
-/// Alters a byte, mostly one that has a meaning.
-fn alter_byte(chance: &mut Chance, image: &mut [u8]) {
-    if image.is_empty() {
-        return;
-    }
-    let block = 512 * chance.below(image.len().div_ceil(512));
-    let end = match chance.below(10) {
-        0..=3 => 64,
-        4..=7 => 400,
-        _ => 504,
-    };
-    let at = (block + chance.below(end)).min(image.len() - 1);
-    image[at] = telling(chance, image[at]);
-}
-
-/// Copies a field to another place of its block: two steps become equal, a role stands twice.
-fn copy_field(chance: &mut Chance, image: &mut [u8]) {
-    if image.len() < 512 {
-        return;
-    }
-    let block = 512 * chance.below(image.len() / 512);
-    let fields = chance.pick(&[16, 126]);
-    let from = block + 4 * chance.below(fields);
-    let to = block + 4 * chance.below(fields);
-    image.copy_within(from..from + 4, to);
-}
-
-/// Puts whole blocks in disorder.
-fn alter_blocks(chance: &mut Chance, image: &mut Vec<u8>) {
-    let blocks = image.len() / 512;
-    if blocks == 0 {
-        return;
-    }
-    let (one, other) = (512 * chance.below(blocks), 512 * chance.below(blocks));
-    let copy = image[one..one + 512].to_vec();
-    match chance.below(4) {
-        0 => image.truncate(image.len() - 512),
-        1 => image.extend(copy),
-        2 => image[other..other + 512].copy_from_slice(&copy),
-        _ => {
-            image.copy_within(other..other + 512, one);
-            image[other..other + 512].copy_from_slice(&copy);
-        }
-    }
-}
-
-/// Damages an image, mostly so that its checks are right again and deeper tests are reached.
-fn damage(chance: &mut Chance, image: &mut Vec<u8>) {
-    loop {
-        match chance.below(10) {
-            0 => alter_blocks(chance, image),
-            1 => copy_field(chance, image),
-            _ => alter_byte(chance, image),
-        }
-        if chance.percent(70) {
-            break;
-        }
-    }
-    if chance.percent(85) {
-        reseal(image);
-    }
-    if chance.percent(5) {
-        image.truncate(chance.below(image.len() + 1));
-    }
-}
-
-/// Writes a stamp into every block of a table.
-fn restamp(table: &mut [u8], stamp: (u32, u32)) {
-    for block in table.chunks_exact_mut(512) {
-        block[16..24].copy_from_slice(&sums_bytes(stamp));
-    }
-    reseal(table);
-}
 
 /// Puts all four calls to what may be damaged.
 fn all_calls(comparing: &mut Comparing, policy: &[u8], table: &[u8], request: &[u8]) {
@@ -384,8 +330,8 @@ fn must_have_seen_in_damaged_images(seen: &Seen, times: usize) {
 fn damaged() {
     let mut comparing = Comparing::new();
     let one = damaged_images;
-    until(&mut comparing, "damaged images", SEED, 200_000, one);
-    must_have_seen_in_damaged_images(&comparing.seen, 500);
+    until(&mut comparing, "damaged images", SEED, full(200_000), one);
+    must_have_seen_in_damaged_images(&comparing.seen, full(500));
     println!("{}", comparing.seen);
 }
 
@@ -429,9 +375,9 @@ fn every_byte(comparing: &mut Comparing, chance: &mut Chance) {
 #[test]
 fn every_byte_damaged() {
     let mut comparing = Comparing::new();
-    until(&mut comparing, "every byte", SEED, 60_000, every_byte);
+    until(&mut comparing, "every byte", SEED, full(60_000), every_byte);
     let seen = &comparing.seen;
-    seen.must_refuse("decide", &[2, 3, 4, 5, 6, 12, 13, 14, 15, 22], 30);
+    seen.must_refuse("decide", &[2, 3, 4, 5, 6, 12, 13, 14, 15, 22], full(30));
     println!("{seen}");
 }
 

@@ -7,6 +7,7 @@
 pub mod busy;
 pub mod chance;
 pub mod compare;
+pub mod damage;
 pub mod lent;
 pub mod lists;
 pub mod plain;
