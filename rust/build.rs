@@ -1,5 +1,5 @@
-//! Links the proved engine's archive, libsod.a: that of the folder SOD_LIB_DIR, or else of
-//! target/staticlib in the repository's root, where `rt staticlib sod` writes it.
+//! Links the proved engine's archive, libsod.a: that of the folder SOD_LIB_DIR, an absolute path, or
+//! else of target/staticlib in the repository's root, where `rt staticlib sod` writes it.
 
 use std::env;
 use std::path::{Path, PathBuf};
@@ -8,6 +8,11 @@ fn main() {
     println!("cargo::rerun-if-changed=build.rs");
     println!("cargo::rerun-if-env-changed=SOD_LIB_DIR");
     let folder = folder();
+    if folder.is_relative() {
+        // It would be looked for in one place here, and in another by the linker.
+        println!("cargo::error=SOD_LIB_DIR is not an absolute path");
+        return;
+    }
     let archive = folder.join("libsod.a");
     println!("cargo::rerun-if-changed={}", archive.display());
     if !archive.exists() {

@@ -2,8 +2,8 @@
 //! another checks it, however many visits lie between the two.
 //!
 //! The engine itself is proved (crates/ in this repository) and linked as target/staticlib/libsod.a,
-//! or from the folder that the variable SOD_LIB_DIR names when this crate is built. This crate makes
-//! it pleasant to call from Rust, and hard to call wrongly:
+//! or from the folder that the variable SOD_LIB_DIR names, by an absolute path, when this crate is
+//! built. This crate makes it pleasant to call from Rust, and hard to call wrongly:
 //!
 //! * a [`Policy`] is an image that the engine has checked; [`Policy::lint`] warns of what may not
 //!   be meant;

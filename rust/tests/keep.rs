@@ -7,9 +7,7 @@ mod keep;
 use hastovimen::*;
 use keep::{keep, Keeper};
 use std::fs;
-use std::io::Write;
 use std::path::{Path, PathBuf};
-use std::process::{Command, Stdio};
 use std::thread;
 
 const LINES: &str = include_str!("../../examples/session.expected");
@@ -43,36 +41,17 @@ fn sample_policy() -> Vec<u8> {
     POLICY.parse::<PolicyBuilder>().unwrap().build().unwrap()
 }
 
-/// The program, which cargo builds before it runs all tests.
-fn program() -> Command {
-    let test = std::env::current_exe().unwrap();
-    let built = test.ancestors().nth(2).unwrap().join("examples/keep");
-    assert!(built.exists(), "build it: cargo test, without --test");
-    Command::new(built)
-}
-
-/// What one run of the program prints.
-fn run(folder: &Folder, requests: &[&str]) -> String {
-    let mut program = program()
-        .arg(&folder.0)
-        .stdin(Stdio::piped())
-        .stdout(Stdio::piped())
-        .spawn()
-        .unwrap();
-    let mut input = program.stdin.take().unwrap();
-    input.write_all(requests.join("\n").as_bytes()).unwrap();
-    drop(input);
-    let output = program.wait_with_output().unwrap();
-    assert!(output.status.success());
-    String::from_utf8(output.stdout).unwrap()
-}
-
-/// The first eight requests, then the others by another run, which knows the files alone.
+/// The first eight requests, then the others by a keeper that knows the files alone. tools/outside
+/// does the same with the program.
 #[test]
 fn sample_session() {
     let folder = Folder::new("keep_session", &sample_policy());
     let requests: Vec<&str> = REQUESTS.lines().collect();
-    let answers: String = (requests.chunks(8).map(|part| run(&folder, part))).collect();
+    let mut output = vec![];
+    for part in requests.chunks(8) {
+        keep(&folder.0, part.join("\n").as_bytes(), &mut output).unwrap();
+    }
+    let answers = String::from_utf8(output).unwrap();
     let numbered: Vec<String> = (1..)
         .zip(answers.lines())
         .map(|(ordinal, answer)| format!("{ordinal} {answer}"))

@@ -90,7 +90,7 @@ fn policies_are_equal_by_their_images() {
 #[test]
 fn blocks_of_a_new_table() {
     let policy = Policy::own(PolicyBuilder::new().build().unwrap()).unwrap();
-    for blocks in [0, 129, usize::MAX] {
+    for blocks in [0, 129, usize::MAX / BLOCK, usize::MAX] {
         let refused = policy.new_table(blocks).map(|_| ());
         assert_eq!(refused, Err(Refusal::TableLength));
     }
