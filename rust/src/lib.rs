@@ -12,7 +12,8 @@
 //! * a [`Request`] has numbers of the right lists, and none that no list has;
 //! * a decision is a [`Grant`] or a [`Refusal`], which can be shown in words;
 //! * [`PolicyBuilder`] and [`TableBuilder`] write images;
-//! * what is shown as text can be read from it;
+//! * requests, policies, grants and refusals can be read from the text that shows them
+//!   ([`ParseError`]);
 //! * [`raw`] has the four calls on any bytes.
 //!
 //! A call allocates nothing and takes at most 24 KiB of stack, [`STACK`]. Where tables are kept in

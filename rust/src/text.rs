@@ -9,7 +9,9 @@ use std::str::FromStr;
 
 /// A text that does not show what was asked for.
 ///
-/// Everything in this crate that is shown as text can be read from it, and from no other text.
+/// Numbers, privileges, contexts, requests, records, rules, whole policies (by
+/// [`PolicyBuilder`](crate::PolicyBuilder)), grants and refusals are read from the text that shows
+/// them, and from no other.
 ///
 /// ```
 /// use hastovimen::{BuildError, Exclusion, ParseError, Role};

@@ -7,96 +7,84 @@ use std::str::FromStr;
 
 impl fmt::Display for Refusal {
     fn fmt(&self, f: &mut fmt::Formatter) -> fmt::Result {
-        pad(f, format_args!("{}: {}", self.number(), Words(self)))
+        let number = self.number();
+        pad(f, format_args!("{number}: {}{}", At(self), fault(self)))
     }
 }
 
-struct Words<'a>(&'a Refusal);
+/// Where the fault is, as the beginning of a sentence.
+struct At<'a>(&'a Refusal);
 
-impl fmt::Display for Words<'_> {
+impl fmt::Display for At<'_> {
     fn fmt(&self, f: &mut fmt::Formatter) -> fmt::Result {
-        match *self.0 {
-            Refusal::PolicyLength
-            | Refusal::PolicyCheck { .. }
-            | Refusal::PolicyHeader { .. }
-            | Refusal::Rule { .. }
-            | Refusal::Exclusion { .. }
-            | Refusal::Permission { .. } => of_policy(self.0, f),
-            Refusal::TableLength
-            | Refusal::TableCheck { .. }
-            | Refusal::TableHeader { .. }
-            | Refusal::TableStamp { .. }
-            | Refusal::Record { .. } => of_table(self.0, f),
-            Refusal::RequestLength => write!(f, "the request is not 28 bytes"),
-            Refusal::RequestField => write!(f, "a field of the request is wrong"),
-            Refusal::NotPermitted => write!(f, "no active role has the permission"),
-            Refusal::ExclusiveRoles { rule, exclusion } => write!(
-                f,
-                "rule {rule}, exclusion {exclusion}: \
-                 the user would have been active in too many exclusive roles"
-            ),
-            Refusal::ExclusivePrivileges { rule, exclusion } => write!(
-                f,
-                "rule {rule}, exclusion {exclusion}: \
-                 the user would have done too many exclusive privileges"
-            ),
-            Refusal::TableFull => write!(f, "the table has no place for the record"),
-            Refusal::Other { first, second, .. } => {
-                write!(f, "refused, with places {first} and {second}")
+        let (first, second) = self.0.places();
+        // Rule r is block r - 1.
+        let rule = u64::from(first) + 1;
+        match self.0 {
+            Refusal::PolicyCheck { .. } | Refusal::PolicyHeader { .. } => {
+                write!(f, "policy block {first}: ")
             }
+            Refusal::Rule { .. } => write!(f, "policy block {first} (rule {rule}): "),
+            Refusal::Exclusion { .. } => {
+                write!(f, "policy block {first} (rule {rule}): exclusion {second} ")
+            }
+            Refusal::Permission { entry: 0, .. } => {
+                write!(f, "policy block {first} (permissions): ")
+            }
+            Refusal::Permission { .. } => {
+                write!(f, "policy block {first} (permissions): entry {second} ")
+            }
+            Refusal::TableCheck { .. }
+            | Refusal::TableHeader { .. }
+            | Refusal::TableStamp { .. } => write!(f, "table block {first}: "),
+            Refusal::Record { .. } => write!(f, "table block {first}: record {second} "),
+            Refusal::ExclusiveRoles { .. } | Refusal::ExclusivePrivileges { .. } => {
+                write!(f, "rule {first}, exclusion {second}: ")
+            }
+            Refusal::Other { .. } => write!(f, "with places {first} and {second}: "),
+            Refusal::PolicyLength
+            | Refusal::TableLength
+            | Refusal::RequestLength
+            | Refusal::RequestField
+            | Refusal::NotPermitted
+            | Refusal::TableFull => Ok(()),
         }
     }
 }
 
-fn of_policy(refusal: &Refusal, f: &mut fmt::Formatter) -> fmt::Result {
-    let block = refusal.places().0;
-    let rule = u64::from(block) + 1;
+/// What is wrong there.
+fn fault(refusal: &Refusal) -> &'static str {
     match refusal {
-        Refusal::PolicyLength => write!(f, "the policy is not 1 to 64 blocks of 512 bytes"),
-        Refusal::PolicyCheck { .. } => write!(f, "policy block {block}: the check is wrong"),
-        Refusal::PolicyHeader { .. } => write!(
-            f,
-            "policy block {block}: kind, number or total is wrong, or no rule may stand here"
-        ),
-        Refusal::Rule { .. } => write!(
-            f,
-            "policy block {block} (rule {rule}): depth, number of exclusions, a flag, a level, \
-             a step or a byte that is not named is wrong"
-        ),
-        Refusal::Exclusion { exclusion, .. } => write!(
-            f,
-            "policy block {block} (rule {rule}): exclusion {exclusion} is wrong"
-        ),
-        Refusal::Permission { entry: 0, .. } => write!(
-            f,
-            "policy block {block} (permissions): the number of entries or a byte that is not \
-             named is wrong"
-        ),
-        Refusal::Permission { entry, .. } => write!(
-            f,
-            "policy block {block} (permissions): entry {entry} is wrong"
-        ),
-        _ => Ok(()),
-    }
-}
-
-fn of_table(refusal: &Refusal, f: &mut fmt::Formatter) -> fmt::Result {
-    let block = refusal.places().0;
-    match refusal {
-        Refusal::TableLength => write!(f, "the table is not 1 to 128 blocks of 512 bytes"),
-        Refusal::TableCheck { .. } => write!(f, "table block {block}: the check is wrong"),
-        Refusal::TableHeader { .. } => write!(
-            f,
-            "table block {block}: kind, number, total, count or a spare byte is wrong, \
-             or records stand after a gap"
-        ),
-        Refusal::TableStamp { .. } => {
-            write!(f, "table block {block}: the table is of another policy")
+        Refusal::PolicyLength => "the policy is not 1 to 64 blocks of 512 bytes",
+        Refusal::TableLength => "the table is not 1 to 128 blocks of 512 bytes",
+        Refusal::PolicyCheck { .. } | Refusal::TableCheck { .. } => "the check is wrong",
+        Refusal::PolicyHeader { .. } => {
+            "kind, number or total is wrong, or no rule may stand here"
         }
-        Refusal::Record { record, .. } => {
-            write!(f, "table block {block}: record {record} is wrong")
+        Refusal::Rule { .. } => {
+            "depth, number of exclusions, a flag, a level, a step or a byte that is not named is wrong"
         }
-        _ => Ok(()),
+        Refusal::Permission { entry: 0, .. } => {
+            "the number of entries or a byte that is not named is wrong"
+        }
+        Refusal::Exclusion { .. } | Refusal::Permission { .. } | Refusal::Record { .. } => {
+            "is wrong"
+        }
+        Refusal::TableHeader { .. } => {
+            "kind, number, total, count or a spare byte is wrong, or records stand after a gap"
+        }
+        Refusal::TableStamp { .. } => "the table is of another policy",
+        Refusal::RequestLength => "the request is not 28 bytes",
+        Refusal::RequestField => "a field of the request is wrong",
+        Refusal::NotPermitted => "no active role has the permission",
+        Refusal::ExclusiveRoles { .. } => {
+            "the user would have been active in too many exclusive roles"
+        }
+        Refusal::ExclusivePrivileges { .. } => {
+            "the user would have done too many exclusive privileges"
+        }
+        Refusal::TableFull => "the table has no place for the record",
+        Refusal::Other { .. } => "refused",
     }
 }
 
@@ -110,11 +98,9 @@ impl FromStr for Refusal {
         let found = words.split(|c: char| !c.is_ascii_digit());
         let mut found = found.filter_map(|word| word.parse().ok());
         let [a, b, c] = [(); 3].map(|()| found.next().unwrap_or(0));
-        let refusals = [(0, 0), (a, 0), (a, b), (a, c)]
+        [(0, 0), (a, 0), (a, b), (a, c)]
             .into_iter()
-            .filter_map(|(first, second)| Refusal::of(number, first, second));
-        refusals
-            .into_iter()
+            .filter_map(|(first, second)| Refusal::of(number, first, second))
             .find(|refusal| shows(refusal, text))
             .ok_or_else(|| ParseError::form("refusal", text))
     }
