@@ -15,6 +15,8 @@
 mod chance;
 #[path = "../tests/independent/mod.rs"]
 mod independent;
+#[path = "../tests/support/plain.rs"]
+mod plain;
 
 use chance::Chance;
 use hastovimen::raw;
@@ -158,12 +160,12 @@ impl Workload {
         begin.elapsed().as_secs_f64() * 1e6 / tables.len() as f64
     }
 
-    fn by_engine(&self, table: &mut [u8]) -> raw::Reply {
+    fn by_engine(&self, table: &mut [u8]) -> Reply {
         match self.call {
-            Call::CheckPolicy => raw::check_policy(&self.policy),
-            Call::CheckTable => raw::check_table(&self.policy, table),
-            Call::FreshTable => raw::fresh_table(&self.policy, table),
-            Call::Decide => raw::decide(&self.policy, table, &self.request),
+            Call::CheckPolicy => plain::count(raw::check_policy(&self.policy)),
+            Call::CheckTable => plain::count(raw::check_table(&self.policy, table)),
+            Call::FreshTable => plain::count(raw::fresh_table(&self.policy, table)),
+            Call::Decide => plain::grant(raw::decide(&self.policy, table, &self.request)),
         }
     }
 
@@ -189,12 +191,6 @@ impl Workload {
     fn agree(&self) {
         let (mut by_engine, mut by_rust) = (self.table.clone(), self.table.clone());
         let engine = self.by_engine(&mut by_engine);
-        let engine = Reply {
-            number: engine.number,
-            first: engine.first,
-            second: engine.second,
-            third: engine.third,
-        };
         let rust = self.by_rust(&mut by_rust);
         assert_eq!(
             (engine, rust),

@@ -1,18 +1,23 @@
 //! A decision engine for multi-session separation of duties: one person adjusts an instrument,
 //! another checks it, however many visits lie between the two.
 //!
-//! The engine itself is proved (crates/ in this repository) and linked as target/staticlib/libsod.a.
-//! This crate makes it pleasant to call from Rust, and hard to call wrongly:
+//! The engine itself is proved (crates/ in this repository) and linked as target/staticlib/libsod.a,
+//! or from the folder that the variable SOD_LIB_DIR names, by an absolute path, when this crate is
+//! built. This crate makes it pleasant to call from Rust, and hard to call wrongly:
 //!
-//! * a [`Policy`] is an image that the engine has checked;
+//! * a [`Policy`] is an image that the engine has checked; [`Policy::lint`] warns of what may not
+//!   be meant;
 //! * a [`Table`] was made fresh or checked under its policy, and nobody else can touch its buffer;
+//! * both lie in lent bytes or, as [`PolicyBuf`] and [`TableBuf`], in their own;
 //! * a [`Request`] has numbers of the right lists, and none that no list has;
-//! * an [`Answer`] is a grant or a [`Refusal`], which can be shown in words;
-//! * [`PolicyBuilder`] and [`TableBuilder`] write images, and a policy or a table can be shown as
-//!   text;
+//! * a decision is a [`Grant`] or a [`Refusal`], which can be shown in words;
+//! * [`PolicyBuilder`] and [`TableBuilder`] write images;
+//! * requests, policies, grants and refusals can be read from the text that shows them
+//!   ([`ParseError`]);
 //! * [`raw`] has the four calls on any bytes.
 //!
-//! A call allocates nothing and takes at most 24 KiB of stack, `SOD_STACK` in include/sod.h.
+//! A call allocates nothing and takes at most 24 KiB of stack, [`STACK`]. Where tables are kept in
+//! files, examples/keep.rs shows how to store them safely.
 //!
 //! # The sample session
 //!
@@ -88,7 +93,7 @@
 //! let mut buffer = [0; 512];
 //! let mut table = policy.fresh_table(&mut buffer)?;
 //! for (request, answer) in &session {
-//!     assert_eq!(table.decide(request).to_string(), *answer, "{request}");
+//!     assert_eq!(Line(table.decide(request)).to_string(), *answer, "{request}");
 //! }
 //!
 //! // The adjustment of job 92 was closed under rule 1, but the count of depot 5 still needs it.
@@ -116,23 +121,48 @@
 #![deny(unsafe_code)]
 #![warn(missing_docs)]
 
-mod answer;
+mod build_error;
 mod bytes;
+mod context;
+mod exclusion;
+mod grant;
+mod image;
+mod level;
+mod limits;
+mod lint;
 mod numbers;
 mod policy;
+mod policy_builder;
+mod privilege;
 pub mod raw;
+mod record;
+mod refusal;
 mod request;
+mod roles;
+mod rule;
 mod table;
+mod table_builder;
+mod text;
+mod words;
 
-pub use answer::{Answer, Refusal};
-pub use numbers::{
-    ContextType, ContextValue, Operation, OutOfRange, Privilege, Role, Roles, Target, User,
+pub use build_error::BuildError;
+pub use context::Context;
+pub use exclusion::{Exclusion, ExclusionKind, Members};
+pub use grant::{Grant, Line};
+pub use level::{Level, Levels, Mark};
+pub use limits::{
+    BLOCK, MOST_POLICY_BLOCKS, MOST_RULES, MOST_TABLE_BLOCKS, RECORDS_PER_BLOCK, STACK, VERSION,
 };
-pub use policy::{BuildError, Exclusion, Level, Levels, Policy, PolicyBuilder, Rule};
-pub use request::{Context, Request};
-pub use table::{Marks, Record, Table, TableBuilder, BLOCK, MOST_BLOCKS, RECORDS_PER_BLOCK};
-
-/// The four C functions from the independent judge, for tests of this crate without the engine.
-#[cfg(feature = "stand-in")]
-#[path = "../tests/stand_in/mod.rs"]
-mod stand_in;
+pub use lint::Warning;
+pub use numbers::{ContextType, ContextValue, Operation, OutOfRange, Role, Target, User};
+pub use policy::{Policy, PolicyBuf};
+pub use policy_builder::PolicyBuilder;
+pub use privilege::Privilege;
+pub use record::{Marks, Record};
+pub use refusal::Refusal;
+pub use request::Request;
+pub use roles::Roles;
+pub use rule::Rule;
+pub use table::{Table, TableBuf};
+pub use table_builder::TableBuilder;
+pub use text::ParseError;

@@ -1,20 +1,44 @@
 //! The numbers of a duty policy. Each list has its own type, so that a role passed for a user, or
 //! an operation for a target, does not build.
 
+use crate::text::{self, pad};
+use crate::{ParseError, Privilege};
 use std::fmt;
+use std::str::FromStr;
 
 /// A number that its list does not have: zero, or past the end.
+///
+/// ```
+/// use hastovimen::Role;
+///
+/// let error = Role::try_from(33).unwrap_err();
+/// assert_eq!((error.number(), error.last()), (33, 32));
+/// assert_eq!(error.to_string(), "33 is no role: they run from 1 to 32");
+/// ```
 #[derive(Clone, Copy, PartialEq, Eq, Debug)]
 pub struct OutOfRange {
     what: &'static str,
-    number: u32,
+    number: u64,
     last: u32,
+}
+
+impl OutOfRange {
+    /// The number.
+    pub fn number(&self) -> u64 {
+        self.number
+    }
+
+    /// The last number of the list.
+    pub fn last(&self) -> u32 {
+        self.last
+    }
 }
 
 impl fmt::Display for OutOfRange {
     fn fmt(&self, f: &mut fmt::Formatter) -> fmt::Result {
         let OutOfRange { what, number, last } = self;
-        write!(f, "{number} is no {what}: they run from 1 to {last}")
+        let text = format_args!("{number} is no {what}: they run from 1 to {last}");
+        pad(f, text)
     }
 }
 
@@ -23,6 +47,8 @@ impl std::error::Error for OutOfRange {}
 macro_rules! number {
     ($(#[$doc:meta])* $name:ident($inner:ty) is a $what:literal to $last:expr) => {
         $(#[$doc])*
+        ///
+        /// It is shown and read as the bare number.
         #[derive(Clone, Copy, PartialEq, Eq, PartialOrd, Ord, Hash, Debug)]
         pub struct $name($inner);
 
@@ -55,17 +81,31 @@ macro_rules! number {
             pub const fn get(self) -> $inner {
                 self.0
             }
+
+            fn out_of_range(number: u64) -> OutOfRange {
+                OutOfRange {
+                    what: $what,
+                    number,
+                    last: $last as u32,
+                }
+            }
         }
 
         impl TryFrom<$inner> for $name {
             type Error = OutOfRange;
 
             fn try_from(number: $inner) -> Result<Self, OutOfRange> {
-                Self::new(number).ok_or(OutOfRange {
-                    what: $what,
-                    number: number.into(),
-                    last: $last as u32,
-                })
+                Self::new(number).ok_or(Self::out_of_range(number.into()))
+            }
+        }
+
+        impl FromStr for $name {
+            type Err = ParseError;
+
+            fn from_str(text: &str) -> Result<Self, ParseError> {
+                let number = text::number(text, $what)?;
+                let small = <$inner>::try_from(number).ok();
+                Ok(small.and_then(Self::new).ok_or(Self::out_of_range(number))?)
             }
         }
 
@@ -110,90 +150,4 @@ impl Operation {
             target,
         }
     }
-}
-
-/// An operation on a target: what is permitted, excluded, or a first or last step.
-#[derive(Clone, Copy, PartialEq, Eq, PartialOrd, Ord, Hash, Debug)]
-pub struct Privilege {
-    /// What is done.
-    pub operation: Operation,
-    /// What it is done to.
-    pub target: Target,
-}
-
-impl fmt::Display for Privilege {
-    fn fmt(&self, f: &mut fmt::Formatter) -> fmt::Result {
-        write!(f, "{} on {}", self.operation, self.target)
-    }
-}
-
-/// The active roles of a request: one role or more.
-///
-/// ```
-/// use hastovimen::{Role, Roles};
-///
-/// let both = Roles::from(Role::of(1)).and(Role::of(32));
-/// assert_eq!(both.to_string(), "1, 32");
-/// assert!(both.has(Role::of(32)) && !both.has(Role::of(2)));
-/// ```
-#[derive(Clone, Copy, PartialEq, Eq, Hash, Debug)]
-pub struct Roles(u32);
-
-impl Roles {
-    /// The roles of a word in which role k is bit k - 1; none if it is zero.
-    pub const fn from_bits(bits: u32) -> Option<Roles> {
-        if bits == 0 {
-            None
-        } else {
-            Some(Roles(bits))
-        }
-    }
-
-    /// The word in which role k is bit k - 1.
-    pub const fn bits(self) -> u32 {
-        self.0
-    }
-
-    /// These roles and one more.
-    pub const fn and(self, role: Role) -> Roles {
-        Roles(self.0 | 1 << (role.get() - 1))
-    }
-
-    /// Whether a role is among them.
-    pub const fn has(self, role: Role) -> bool {
-        self.0 >> (role.get() - 1) & 1 == 1
-    }
-
-    /// The roles in order.
-    pub fn iter(self) -> impl Iterator<Item = Role> {
-        (1..=Role::LAST.get())
-            .map(Role)
-            .filter(move |&role| self.has(role))
-    }
-}
-
-impl From<Role> for Roles {
-    fn from(role: Role) -> Roles {
-        Roles(1 << (role.get() - 1))
-    }
-}
-
-impl fmt::Display for Roles {
-    fn fmt(&self, f: &mut fmt::Formatter) -> fmt::Result {
-        write_list(f, self.iter())
-    }
-}
-
-/// Writes a list with commas.
-pub(crate) fn write_list<T: fmt::Display>(
-    f: &mut fmt::Formatter,
-    items: impl IntoIterator<Item = T>,
-) -> fmt::Result {
-    for (i, item) in items.into_iter().enumerate() {
-        if i > 0 {
-            f.write_str(", ")?;
-        }
-        item.fmt(f)?;
-    }
-    Ok(())
 }

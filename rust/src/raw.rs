@@ -4,30 +4,70 @@
 //! none. A slice has a true length, and the borrow checker keeps a lent table apart from the policy
 //! and the request, so that nothing is left of what the header asks of a C caller.
 //!
-//! No call allocates, and each takes at most 24 KiB of stack, whatever the bytes: tests/stack.rs runs
-//! every one on a stack of that size.
+//! C gets four numbers from every call, of which 0 comes first for acceptance as for grant. Here what
+//! passes a check is a count and what is granted is a [`Grant`], so that neither is taken for the
+//! other. Nothing of the four numbers is lost: numbers and places that document 01 does not have
+//! come as [`Refusal::Other`], and a call panics on a reply of any other form, such as a recorded of
+//! 2. The engine is proved to give none of either.
+//!
+//! No call allocates, and each takes at most 24 KiB of stack ([`STACK`](crate::STACK)), whatever the
+//! bytes: tests/stack.rs runs every one on a stack of that size.
 //!
 //! [`Policy`](crate::Policy) and [`Table`](crate::Table) are the comfortable way in; this one is for
 //! bytes that may be bad.
+//!
+//! ```
+//! use hastovimen::{raw, PolicyBuilder, Refusal};
+//!
+//! let policy = PolicyBuilder::new().build()?;
+//! let mut table = [0xEE; 1024];
+//! assert_eq!(raw::check_policy(&policy), Ok(0));
+//! assert_eq!(raw::fresh_table(&policy, &mut table), Ok(30));
+//! assert_eq!(raw::check_table(&policy, &table), Ok(0));
+//! assert_eq!(raw::decide(&policy, &mut table, &[1; 29]), Err(Refusal::RequestLength));
+//! # Ok::<(), hastovimen::BuildError>(())
+//! ```
 
 #![allow(unsafe_code)]
 
-/// What a call returns.
-///
-/// `number` is 0 for acceptance and grant. Then `first` is how many rules, records or places were
-/// found, or `first`, `second`, `third` are recorded, removed, held. Otherwise `number` is the
-/// refusal's, `first` and `second` are its places, and `third` is 0.
+use crate::{Grant, Refusal};
+
+/// `sod_reply` of include/sod.h.
 #[repr(C)]
 #[derive(Clone, Copy, PartialEq, Eq, Debug)]
-pub struct Reply {
-    /// 0, or the refusal's number.
-    pub number: u32,
-    /// Rules, records, places, recorded; or the refusal's first place.
-    pub first: u32,
-    /// Removed; or the refusal's second place.
-    pub second: u32,
-    /// Held.
-    pub third: u32,
+struct Reply {
+    number: u32,
+    first: u32,
+    second: u32,
+    third: u32,
+}
+
+impl Reply {
+    /// How many rules, records or places were found.
+    fn count(self) -> Result<u32, Refusal> {
+        self.read(|reply| (reply.second == 0 && reply.third == 0).then_some(reply.first))
+    }
+
+    fn grant(self) -> Result<Grant, Refusal> {
+        self.read(|reply| {
+            (reply.first <= 1).then_some(Grant {
+                recorded: reply.first == 1,
+                removed: reply.second,
+                held: reply.third,
+            })
+        })
+    }
+
+    fn read<T>(self, good: impl FnOnce(Reply) -> Option<T>) -> Result<T, Refusal> {
+        let answer = if self.number == 0 {
+            good(self).map(Ok)
+        } else if self.third == 0 {
+            Refusal::of(self.number, self.first, self.second).map(Err)
+        } else {
+            None
+        };
+        answer.unwrap_or_else(|| panic!("no call of the engine gives {self:?}"))
+    }
 }
 
 extern "C" {
@@ -55,32 +95,26 @@ extern "C" {
 }
 
 /// Checks a policy: its rules, or 1 to 6.
-pub fn check_policy(policy: &[u8]) -> Reply {
+pub fn check_policy(policy: &[u8]) -> Result<u32, Refusal> {
     // SAFETY: here and below, each pointer and length are those of one live slice, and a slice that
     // the engine writes to is borrowed mutably, so that it overlaps no other.
-    unsafe { sod_check_policy(policy.as_ptr(), policy.len()) }
+    unsafe { sod_check_policy(policy.as_ptr(), policy.len()) }.count()
 }
 
 /// Checks a table under a policy: its records, or 1 to 6, 11 to 15.
-pub fn check_table(policy: &[u8], table: &[u8]) -> Reply {
-    unsafe { sod_check_table(policy.as_ptr(), policy.len(), table.as_ptr(), table.len()) }
+pub fn check_table(policy: &[u8], table: &[u8]) -> Result<u32, Refusal> {
+    unsafe { sod_check_table(policy.as_ptr(), policy.len(), table.as_ptr(), table.len()) }.count()
 }
 
 /// Makes a fresh table in a lent buffer: its places, or 1 to 6, 11.
-pub fn fresh_table(policy: &[u8], table: &mut [u8]) -> Reply {
-    unsafe {
-        sod_fresh_table(
-            policy.as_ptr(),
-            policy.len(),
-            table.as_mut_ptr(),
-            table.len(),
-        )
-    }
+pub fn fresh_table(policy: &[u8], table: &mut [u8]) -> Result<u32, Refusal> {
+    let (bytes, len) = (table.as_mut_ptr(), table.len());
+    unsafe { sod_fresh_table(policy.as_ptr(), policy.len(), bytes, len) }.count()
 }
 
 /// Decides a request and brings the table up to date: a grant, or any number.
-pub fn decide(policy: &[u8], table: &mut [u8], request: &[u8]) -> Reply {
-    unsafe {
+pub fn decide(policy: &[u8], table: &mut [u8], request: &[u8]) -> Result<Grant, Refusal> {
+    let reply = unsafe {
         sod_decide(
             policy.as_ptr(),
             policy.len(),
@@ -89,21 +123,27 @@ pub fn decide(policy: &[u8], table: &mut [u8], request: &[u8]) -> Reply {
             request.as_ptr(),
             request.len(),
         )
-    }
+    };
+    reply.grant()
 }
 
 #[cfg(test)]
 mod tests {
     use super::*;
+    use std::panic::catch_unwind;
     use std::ptr::{null, null_mut};
 
-    fn refusal(number: u32) -> Reply {
+    fn reply(number: u32, first: u32, second: u32, third: u32) -> Reply {
         Reply {
             number,
-            first: 0,
-            second: 0,
-            third: 0,
+            first,
+            second,
+            third,
         }
+    }
+
+    fn refusal(number: u32) -> Reply {
+        reply(number, 0, 0, 0)
     }
 
     /// "Length 0 with any pointer is fine and gets its number."
@@ -121,13 +161,39 @@ mod tests {
         let policy = crate::PolicyBuilder::new().build().unwrap();
         let (p, len) = (policy.as_ptr(), policy.len());
         let mut table = [0; 512];
-        fresh_table(&policy, &mut table);
+        assert_eq!(fresh_table(&policy, &mut table), Ok(15));
         unsafe {
             assert_eq!(sod_check_table(p, len, null(), 0), refusal(11));
             assert_eq!(sod_fresh_table(p, len, null_mut(), 0), refusal(11));
             assert_eq!(sod_decide(p, len, null_mut(), 0, null(), 0), refusal(11));
             let decided = sod_decide(p, len, table.as_mut_ptr(), 512, null(), 0);
             assert_eq!(decided, refusal(21));
+        }
+    }
+
+    #[test]
+    fn replies() {
+        assert_eq!(reply(0, 9, 0, 0).count(), Ok(9));
+        let grant = Grant {
+            recorded: true,
+            removed: 2,
+            held: 3,
+        };
+        assert_eq!(reply(0, 1, 2, 3).grant(), Ok(grant));
+        assert_eq!(refusal(31).grant(), Err(Refusal::NotPermitted));
+        assert_eq!(refusal(31).count(), Err(Refusal::NotPermitted));
+        let strange = reply(31, 1, 0, 0).grant().unwrap_err();
+        assert_eq!((strange.number(), strange.places()), (31, (1, 0)));
+    }
+
+    /// A grant is never made of what no decision replies.
+    #[test]
+    fn replies_that_no_call_gives() {
+        for bad in [reply(0, 2, 0, 0), reply(34, 0, 0, 1)] {
+            assert!(catch_unwind(|| bad.grant()).is_err());
+        }
+        for bad in [reply(0, 1, 1, 0), reply(0, 1, 0, 1), reply(1, 0, 0, 1)] {
+            assert!(catch_unwind(|| bad.count()).is_err());
         }
     }
 }

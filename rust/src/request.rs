@@ -1,106 +1,15 @@
-//! Requests and their business contexts.
+//! Requests.
 
-use crate::bytes::{put_u16, put_u32, u16_at, u32_at};
-use crate::numbers::write_list;
-use crate::{ContextType, ContextValue, Operation, Privilege, Refusal, Roles, Target, User};
+use crate::bytes::{put_u32, u32_at};
+use crate::text::{exactly, pad, Cut};
+use crate::{Context, ParseError, Privilege, Refusal, Roles, User};
 use std::fmt;
+use std::str::FromStr;
 
-/// Where in the business a step is taken: up to four levels of type and value, from the outermost
-/// on. No levels is the whole business.
-///
-/// It is made from an array; one of five levels does not build.
-///
-/// ```
-/// use hastovimen::{Context, ContextType, ContextValue};
-///
-/// const DEPOT: ContextType = ContextType::of(1);
-/// const JOB: ContextType = ContextType::of(2);
-///
-/// let context = Context::from([(DEPOT, ContextValue::of(5)), (JOB, ContextValue::of(90))]);
-/// assert_eq!(context.to_string(), "1=5, 2=90");
-/// ```
-///
-/// ```compile_fail
-/// use hastovimen::{Context, ContextType, ContextValue};
-///
-/// let level = (ContextType::of(1), ContextValue::of(1));
-/// let context = Context::from([level; 5]);
-/// ```
-#[derive(Clone, Copy, PartialEq, Eq, Hash, Debug, Default)]
-pub struct Context {
-    // Used levels come first, as in the image.
-    levels: [Option<(ContextType, ContextValue)>; 4],
-}
-
-impl Context {
-    /// The context of no levels.
-    pub const WHOLE_BUSINESS: Context = Context { levels: [None; 4] };
-
-    /// The context of these levels, if there are at most four.
-    pub fn new(levels: &[(ContextType, ContextValue)]) -> Option<Context> {
-        let mut context = Context::WHOLE_BUSINESS;
-        if levels.len() > context.levels.len() {
-            return None;
-        }
-        for (place, &level) in context.levels.iter_mut().zip(levels) {
-            *place = Some(level);
-        }
-        Some(context)
-    }
-
-    /// The levels that are used.
-    pub fn levels(&self) -> impl Iterator<Item = (ContextType, ContextValue)> + '_ {
-        self.levels.iter().flatten().copied()
-    }
-
-    fn read(bytes: &[u8]) -> Option<Context> {
-        let mut levels = [None; 4];
-        let mut blank = false;
-        for (place, level) in levels.iter_mut().zip(bytes.as_chunks::<4>().0) {
-            if *level == [0; 4] {
-                blank = true;
-                continue;
-            }
-            if blank {
-                return None;
-            }
-            let kind = ContextType::new(u16_at(level, 0))?;
-            *place = Some((kind, ContextValue::new(u16_at(level, 2))?));
-        }
-        Some(Context { levels })
-    }
-
-    fn write(&self, bytes: &mut [u8]) {
-        for ((kind, value), level) in self.levels().zip(bytes.as_chunks_mut::<4>().0) {
-            put_u16(level, 0, kind.get());
-            put_u16(level, 2, value.get());
-        }
-    }
-}
-
-macro_rules! context_from_array {
-    ($($length:literal)*) => {$(
-        impl From<[(ContextType, ContextValue); $length]> for Context {
-            fn from(levels: [(ContextType, ContextValue); $length]) -> Context {
-                Context::new(&levels).expect("at most four levels")
-            }
-        }
-    )*};
-}
-
-context_from_array! { 0 1 2 3 4 }
-
-impl fmt::Display for Context {
-    fn fmt(&self, f: &mut fmt::Formatter) -> fmt::Result {
-        if *self == Context::WHOLE_BUSINESS {
-            return f.write_str("the whole business");
-        }
-        let levels = self.levels();
-        write_list(f, levels.map(|(kind, value)| format!("{kind}={value}")))
-    }
-}
+const REQUEST: &str = "request";
 
 /// What a user wants to do, in which roles and where.
+#[must_use = "a request does nothing until it is decided"]
 #[derive(Clone, Copy, PartialEq, Eq, Hash, Debug)]
 pub struct Request {
     /// Who asks.
@@ -126,6 +35,7 @@ impl Request {
     /// let depot = (ContextType::of(1), ContextValue::of(5));
     /// let request = Request::new(User::of(7), Role::of(1), adjust, [depot]);
     /// assert_eq!(request.to_string(), "user 7 in role 1: 1 on 1 at 1=5");
+    /// assert_eq!("user 7 in role 1: 1 on 1 at 1=5".parse(), Ok(request));
     /// assert_eq!(Request::read(&request.to_bytes()), Ok(request));
     /// ```
     ///
@@ -167,6 +77,7 @@ impl Request {
     }
 
     /// The request's image.
+    #[must_use]
     pub fn to_bytes(&self) -> [u8; Request::LENGTH] {
         let mut bytes = [0; Request::LENGTH];
         put_u32(&mut bytes, 0, self.user.get());
@@ -185,23 +96,29 @@ impl fmt::Display for Request {
             privilege,
             context,
         } = self;
-        let role = if roles.iter().count() == 1 {
-            "role"
+        let s = if roles.bits().count_ones() == 1 {
+            ""
         } else {
-            "roles"
+            "s"
         };
-        write!(f, "user {user} in {role} {roles}: {privilege} at {context}")
+        let text = format_args!("user {user} in role{s} {roles}: {privilege} at {context}");
+        pad(f, text)
     }
 }
 
-impl Privilege {
-    pub(crate) fn read(bytes: &[u8]) -> Option<Privilege> {
-        let operation = Operation::new(u16_at(bytes, 0))?;
-        Some(operation.on(Target::new(u16_at(bytes, 2))?))
-    }
+impl FromStr for Request {
+    type Err = ParseError;
 
-    pub(crate) fn write(self, bytes: &mut [u8]) {
-        put_u16(bytes, 0, self.operation.get());
-        put_u16(bytes, 2, self.target.get());
+    fn from_str(text: &str) -> Result<Request, ParseError> {
+        let (user, rest) = text.behind("user ", REQUEST)?.cut(" in role", REQUEST)?;
+        let (roles, rest) = rest.cut(": ", REQUEST)?;
+        let (privilege, context) = rest.cut(" at ", REQUEST)?;
+        let request = Request {
+            user: user.parse()?,
+            roles: roles.trim_start_matches('s').trim_start().parse()?,
+            privilege: privilege.parse()?,
+            context: context.parse()?,
+        };
+        exactly(request, text, REQUEST)
     }
 }

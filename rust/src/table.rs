@@ -1,63 +1,22 @@
 //! Tables of earlier grants.
 
-use crate::bytes::{put_header, put_u16, put_u32, seal, sums, u16_at, u32_at};
-use crate::numbers::write_list;
-use crate::{raw, Answer, BuildError, Policy, Refusal, Request};
+use crate::bytes::{put_header, seal, u16_at};
+use crate::image::TableImage;
+use crate::{raw, BuildError, Grant, Policy, PolicyBuf, Record, Refusal, Request};
+use crate::{BLOCK, MOST_TABLE_BLOCKS, RECORDS_PER_BLOCK};
 use std::fmt;
 
-/// The length of a block.
-pub const BLOCK: usize = 512;
-/// How many records a block has place for.
-pub const RECORDS_PER_BLOCK: usize = 15;
-/// The most blocks that a table can have.
-pub const MOST_BLOCKS: usize = 128;
-
-const TABLE: u32 = 2;
-const RECORD: usize = 32;
-
-/// The rules that still count a record.
-#[derive(Clone, Copy, PartialEq, Eq, Hash, Debug)]
-pub struct Marks(u32);
-
-impl Marks {
-    /// The word in which rule r is bit r - 1.
-    pub const fn bits(self) -> u32 {
-        self.0
-    }
-
-    /// The rules, from 1, in order.
-    pub fn rules(self) -> impl Iterator<Item = u32> {
-        (1..=32).filter(move |rule| self.0 >> (rule - 1) & 1 == 1)
-    }
-}
-
-impl fmt::Display for Marks {
-    fn fmt(&self, f: &mut fmt::Formatter) -> fmt::Result {
-        write_list(f, self.rules())
-    }
-}
-
-/// An earlier grant and the rules that still count it.
-#[derive(Clone, Copy, PartialEq, Eq, Hash, Debug)]
-pub struct Record {
-    /// What was granted.
-    pub request: Request,
-    /// Who still counts it.
-    pub marks: Marks,
-}
-
-impl fmt::Display for Record {
-    fn fmt(&self, f: &mut fmt::Formatter) -> fmt::Result {
-        write!(f, "{} (rules {})", self.request, self.marks)
-    }
-}
+pub(crate) const TABLE: u32 = 2;
+/// Where in a block its records begin.
+pub(crate) const RECORDS_AT: usize = 24;
 
 /// A table that was made fresh or checked under a policy, and that nobody else can alter while this
 /// value lives.
 ///
-/// It holds its buffer by `&mut` and its policy by `&`, so that the two cannot overlap, and it is
-/// decided on through `&mut self`, by one thread at a time. Dropping it gives the buffer back, to be
-/// stored; [`Policy::open_table`] takes it up again.
+/// Its buffer is lent by `&mut` ([`Policy::fresh_table`], [`Policy::open_table`]) or its own
+/// ([`Policy::new_table`], [`Policy::own_table`], [`TableBuf`]). It keeps its policy, so that it is
+/// never decided under another one, and it is decided on through `&mut self`, by one thread at a
+/// time. Dropping it gives a lent buffer back, to be stored.
 ///
 /// ```compile_fail
 /// # use hastovimen::*;
@@ -66,63 +25,133 @@ impl fmt::Display for Record {
 /// let mut buffer = [0; 512];
 /// let mut table = policy.fresh_table(&mut buffer).unwrap();
 /// buffer[24] = 1; // the table still has it
-/// table.decide_bytes(&[]);
+/// let decided = table.decide_bytes(&[]);
 /// ```
-#[derive(Debug)]
+#[must_use = "a table does nothing until it is decided on"]
 pub struct Table<'p, 't> {
     policy: Policy<'p>,
-    image: &'t mut [u8],
+    image: TableImage<'t>,
 }
 
+/// A table with a buffer and a policy of its own, which can be kept anywhere.
+///
+/// ```
+/// use hastovimen::*;
+///
+/// struct Desk {
+///     table: TableBuf,
+/// }
+///
+/// let policy = Policy::own(PolicyBuilder::new().build()?)?;
+/// let mut desk = Desk { table: policy.new_table(4)? };
+/// let step = Operation::of(1).on(Target::of(1));
+/// let request = Request::new(User::of(7), Role::of(1), step, []);
+/// assert_eq!(desk.table.decide(&request), Err(Refusal::NotPermitted));
+/// # Ok::<(), Box<dyn std::error::Error>>(())
+/// ```
+pub type TableBuf = Table<'static, 'static>;
+
 impl<'p> Policy<'p> {
-    /// Makes a fresh table in a buffer of 512 times 1 to 128 bytes, whatever it held before.
+    /// Makes a fresh table in a lent buffer of 512 times 1 to 128 bytes, whatever it held before.
     pub fn fresh_table<'t>(&self, buffer: &'t mut [u8]) -> Result<Table<'p, 't>, Refusal> {
-        let reply = raw::fresh_table(self.image(), buffer);
-        self.table(buffer, reply)
+        raw::fresh_table(self.image(), buffer)?;
+        Ok(self.table(TableImage::Lent(buffer)))
     }
 
-    /// Lets the engine check a table that was made under this policy, and takes it up.
-    pub fn open_table<'t>(&self, buffer: &'t mut [u8]) -> Result<Table<'p, 't>, Refusal> {
-        let reply = raw::check_table(self.image(), buffer);
-        self.table(buffer, reply)
-    }
-
-    fn table<'t>(&self, image: &'t mut [u8], reply: raw::Reply) -> Result<Table<'p, 't>, Refusal> {
-        match Refusal::of(reply) {
-            Some(refusal) => Err(refusal),
-            None => Ok(Table {
-                policy: *self,
-                image,
-            }),
+    /// Makes a fresh table of 1 to 128 blocks, with a buffer of its own.
+    pub fn new_table(&self, blocks: usize) -> Result<Table<'p, 'static>, Refusal> {
+        if blocks > MOST_TABLE_BLOCKS {
+            // The buffer may be more than there is memory for.
+            return Err(Refusal::TableLength);
         }
+        let mut buffer = vec![0; blocks * BLOCK];
+        raw::fresh_table(self.image(), &mut buffer)?;
+        Ok(self.table(TableImage::Owned(buffer)))
+    }
+
+    /// Lets the engine check a lent table that was made under this policy, and takes it up.
+    pub fn open_table<'t>(&self, buffer: &'t mut [u8]) -> Result<Table<'p, 't>, Refusal> {
+        raw::check_table(self.image(), buffer)?;
+        Ok(self.table(TableImage::Lent(buffer)))
+    }
+
+    /// Lets the engine check a table that was made under this policy, and keeps it.
+    pub fn own_table(&self, buffer: Vec<u8>) -> Result<Table<'p, 'static>, Refusal> {
+        raw::check_table(self.image(), &buffer)?;
+        Ok(self.table(TableImage::Owned(buffer)))
+    }
+
+    fn table<'t>(&self, image: TableImage<'t>) -> Table<'p, 't> {
+        let policy = self.clone();
+        Table { policy, image }
     }
 }
 
 impl<'p> Table<'p, '_> {
     /// Decides a request and brings the table up to date. If it is refused, the table stays as it
-    /// was.
-    pub fn decide(&mut self, request: &Request) -> Answer {
+    /// was. Once it is granted, store the table before the step is taken.
+    ///
+    /// ```
+    /// use hastovimen::*;
+    ///
+    /// let policy = Policy::own("role 1 may do 1 on 1\n".parse::<PolicyBuilder>()?.build()?)?;
+    /// let mut table = policy.new_table(1)?;
+    /// let request: Request = "user 7 in role 1: 1 on 1 at the whole business".parse()?;
+    /// match table.decide(&request) {
+    ///     Ok(grant) => assert!(!grant.recorded), // there is no rule that counts it
+    ///     Err(refusal) => panic!("{refusal}"),
+    /// }
+    /// # Ok::<(), Box<dyn std::error::Error>>(())
+    /// ```
+    ///
+    /// An answer that nobody looks at is warned of:
+    ///
+    /// ```compile_fail
+    /// #![deny(unused_must_use)]
+    /// # use hastovimen::*;
+    /// fn careless(table: &mut Table, request: &Request) {
+    ///     table.decide(request);
+    /// }
+    /// ```
+    pub fn decide(&mut self, request: &Request) -> Result<Grant, Refusal> {
         self.decide_bytes(&request.to_bytes())
     }
 
     /// Decides a request that came as bytes, whatever they are.
-    pub fn decide_bytes(&mut self, request: &[u8]) -> Answer {
-        raw::decide(self.policy.image(), self.image, request).into()
+    pub fn decide_bytes(&mut self, request: &[u8]) -> Result<Grant, Refusal> {
+        raw::decide(self.policy.image(), &mut self.image, request)
     }
 
     /// The policy that it stands under.
-    pub fn policy(&self) -> Policy<'p> {
-        self.policy
+    pub fn policy(&self) -> &Policy<'p> {
+        &self.policy
     }
 
     /// The image, to be stored.
     pub fn image(&self) -> &[u8] {
-        self.image
+        &self.image
+    }
+
+    /// The image, taken out; that of a lent buffer is copied.
+    #[must_use = "the table is gone otherwise"]
+    pub fn into_image(self) -> Vec<u8> {
+        self.image.into_vec()
+    }
+
+    /// The same table with a buffer and a policy of its own; what is lent is copied.
+    pub fn into_owned(self) -> TableBuf {
+        let policy: PolicyBuf = self.policy.into_owned();
+        policy.table(TableImage::Owned(self.image.into_vec()))
+    }
+
+    /// How many blocks it has.
+    pub fn blocks(&self) -> usize {
+        self.image.len() / BLOCK
     }
 
     /// How many records it can hold.
     pub fn places(&self) -> usize {
-        RECORDS_PER_BLOCK * (self.image.len() / BLOCK)
+        RECORDS_PER_BLOCK * self.blocks()
     }
 
     /// How many it holds.
@@ -133,15 +162,45 @@ impl<'p> Table<'p, '_> {
     /// Its records, in the order in which they were granted.
     pub fn records(&self) -> impl Iterator<Item = Record> + '_ {
         let blocks = self.image.chunks_exact(BLOCK);
-        let records = blocks
-            .flat_map(|block| block[24..24 + RECORD * records_in(block)].chunks_exact(RECORD));
-        records.map(|record| {
-            let (request, marks) = record.split_at(Request::LENGTH);
-            Record {
-                request: Request::read(request).expect("the table was checked"),
-                marks: Marks(u32_at(marks, 0)),
-            }
-        })
+        let records = blocks.flat_map(|block| {
+            let end = RECORDS_AT + Record::LENGTH * records_in(block);
+            block[RECORDS_AT..end].chunks_exact(Record::LENGTH)
+        });
+        records.map(|record| Record::read(record).expect("the table was checked"))
+    }
+
+    /// The same records in a table of so many blocks: as many as this one has, or more. This one
+    /// stays as it is; decide on one of the two from here on.
+    ///
+    /// ```
+    /// use hastovimen::*;
+    ///
+    /// let policy = Policy::own(PolicyBuilder::new().build()?)?;
+    /// let table = policy.new_table(2)?;
+    /// let grown = table.grown(3)?;
+    /// assert_eq!((grown.places(), grown.held()), (45, table.held()));
+    /// let error = grown.grown(2).unwrap_err();
+    /// assert_eq!(error, BuildError::FewerBlocks { has: 3, asked: 2 });
+    /// # Ok::<(), Box<dyn std::error::Error>>(())
+    /// ```
+    pub fn grown(&self, blocks: usize) -> Result<Table<'p, 'static>, BuildError> {
+        let has = self.blocks();
+        if blocks > MOST_TABLE_BLOCKS {
+            return Err(BuildError::TableBlocks(blocks));
+        }
+        if blocks < has {
+            return Err(BuildError::FewerBlocks { has, asked: blocks });
+        }
+        let mut image = self.image.to_vec();
+        image.resize(blocks * BLOCK, 0);
+        let stamp = &self.image[16..24];
+        for (number, block) in image.chunks_exact_mut(BLOCK).enumerate() {
+            put_header(block, TABLE, number, blocks);
+            block[16..24].copy_from_slice(stamp);
+        }
+        seal(&mut image);
+        let grown = self.policy.own_table(image);
+        Ok(grown.expect("records that were checked, from the front on"))
     }
 }
 
@@ -160,82 +219,12 @@ impl fmt::Display for Table<'_, '_> {
     }
 }
 
-/// Writes down records as a table's image, to take over a history from elsewhere.
-///
-/// Whether each record fits the rules that it is marked for is for [`Policy::open_table`] to say.
-///
-/// ```
-/// use hastovimen::*;
-///
-/// # let check = Operation::of(2).on(Target::of(1));
-/// # let image = PolicyBuilder::new()
-/// #     .rule(Rule::over([]).exclude(Exclusion::of_privileges(2, &[check, check])?))
-/// #     .permit(Role::of(2), check)
-/// #     .build()?;
-/// let policy = Policy::check(&image)?;
-/// let request = Request::new(User::of(7), Role::of(2), check, []);
-/// let mut image = TableBuilder::new(policy, 1).record(request, &[1]).build()?;
-/// let mut table = policy.open_table(&mut image)?;
-/// assert_eq!(table.to_string(), "\
-/// 1 of 15 places
-/// 1: user 7 in role 2: 2 on 1 at the whole business (rules 1)
-/// ");
-/// assert_eq!(table.decide(&request).to_string(), "refuse 33 1 1");
-/// # Ok::<(), Box<dyn std::error::Error>>(())
-/// ```
-#[derive(Clone, Debug)]
-pub struct TableBuilder<'p> {
-    policy: Policy<'p>,
-    blocks: usize,
-    records: Vec<(Request, Vec<u32>)>,
-}
-
-impl<'p> TableBuilder<'p> {
-    /// An empty table of so many blocks, 1 to 128.
-    pub fn new(policy: Policy<'p>, blocks: usize) -> TableBuilder<'p> {
-        TableBuilder {
-            policy,
-            blocks,
-            records: vec![],
-        }
+impl fmt::Debug for Table<'_, '_> {
+    fn fmt(&self, f: &mut fmt::Formatter) -> fmt::Result {
+        f.debug_struct("Table")
+            .field("policy", &self.policy)
+            .field("places", &self.places())
+            .field("records", &self.records().collect::<Vec<_>>())
+            .finish()
     }
-
-    /// One more record behind the others, marked for these rules (from 1).
-    pub fn record(mut self, request: Request, rules: &[u32]) -> TableBuilder<'p> {
-        self.records.push((request, rules.to_vec()));
-        self
-    }
-
-    /// The image.
-    pub fn build(&self) -> Result<Vec<u8>, BuildError> {
-        if !(1..=MOST_BLOCKS).contains(&self.blocks) {
-            return Err(BuildError::TableBlocks(self.blocks));
-        }
-        if self.records.len() > RECORDS_PER_BLOCK * self.blocks {
-            return Err(BuildError::Records(self.records.len()));
-        }
-        let stamp = sums(self.policy.image());
-        let mut image = vec![0; self.blocks * BLOCK];
-        for (number, block) in image.chunks_exact_mut(BLOCK).enumerate() {
-            put_header(block, TABLE, number, self.blocks);
-            block[16..24].copy_from_slice(&stamp);
-        }
-        for (i, (request, rules)) in self.records.iter().enumerate() {
-            let marks = marks_of(rules).ok_or(BuildError::Marks { record: i + 1 })?;
-            let block = &mut image[i / RECORDS_PER_BLOCK * BLOCK..][..BLOCK];
-            let here = i % RECORDS_PER_BLOCK;
-            put_u16(block, 8, here as u16 + 1);
-            let record = &mut block[24 + RECORD * here..][..RECORD];
-            record[..Request::LENGTH].copy_from_slice(&request.to_bytes());
-            put_u32(record, Request::LENGTH, marks);
-        }
-        seal(&mut image);
-        Ok(image)
-    }
-}
-
-/// The word of these rules, if there is one at least and all are from 1 to 32.
-fn marks_of(rules: &[u32]) -> Option<u32> {
-    let good = !rules.is_empty() && rules.iter().all(|rule| (1..=32).contains(rule));
-    good.then(|| rules.iter().fold(0, |marks, rule| marks | 1 << (rule - 1)))
 }

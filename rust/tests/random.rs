@@ -1,7 +1,10 @@
 //! Engine, both independent judges and the full register over lists by chance.
 //!
+//! In a debug build each part but the large lists is a tenth as long.
+//!
 //! Each part goes by a seed and by a number of decisions, never by the clock, so that it does the
 //! same everywhere; and each part fails if an answer that it is there for did not come up often.
+//! Where a list fails, its shortest failing beginning is printed in words.
 //!
 //! The long run, of more than ten million decisions:
 //!
@@ -14,14 +17,24 @@ mod support;
 
 use independent::images::*;
 use independent::judge::fits;
-use independent::register::Register;
 use independent::Reply;
 use support::busy::{Busy, Pool, MET};
 use support::chance::Chance;
 use support::compare::*;
+use support::damage::{damage, restamp, telling};
+use support::lists::{shortest, List, Start};
 use support::world::{request_bytes, World};
 
 const SEED: u64 = 2_026;
+
+/// So many in a release build; a tenth in a debug build, for a plain `cargo test`.
+const fn full(number: usize) -> usize {
+    if cfg!(debug_assertions) {
+        number / 10
+    } else {
+        number
+    }
+}
 
 /// Says where chance stood when a test fails.
 struct Where(String);
@@ -57,44 +70,29 @@ fn until(
 /// A list of so many requests in a world, on a table of so many blocks; of a hundred requests some
 /// are `damaged`. Whether anybody has reached m is asked after every `every`-th request.
 fn list(
-    comparing: &mut Comparing,
     chance: &mut Chance,
     world: &World,
     blocks: usize,
     length: usize,
     damaged: usize,
     every: usize,
-) {
-    let policy = &world.image;
-    let mut table = noise(chance, 512 * blocks);
-    let fresh = comparing.fresh_table(policy, &mut table);
-    assert_eq!(fresh, Reply::accept(places(blocks)));
-    let mut register = Register::new(policy, blocks);
-    assert!(table == register.image(), "a fresh table is another");
-
-    let (mut recorded, mut removed) = (0, 0);
+) -> List {
+    let start = Start::Fresh(noise(chance, 512 * blocks));
     let mut request = world.request(chance);
-    for i in 0..length {
-        if chance.percent(95) {
-            request = world.request(chance);
-        }
-        let bytes = request_bytes(chance, &request, damaged);
-        let harmless = register.could_take(&bytes);
-        let reply = comparing.decide(policy, &mut table, &bytes);
-        assert_eq!(reply, register.answer(&bytes), "the register");
-        assert!(table == register.image(), "the register's image is another");
-        if !reply.is_refusal() {
-            assert!(harmless, "somebody has reached m with this step");
-            recorded += reply.first;
-            removed += reply.second;
-            assert_eq!(recorded - removed, reply.third);
-        }
-        if i % every == 0 {
-            assert!(register.nobody_has_reached_m());
-        }
+    let requests = (0..length)
+        .map(|_| {
+            if chance.percent(95) {
+                request = world.request(chance);
+            }
+            request_bytes(chance, &request, damaged)
+        })
+        .collect();
+    List {
+        policy: world.image.clone(),
+        start,
+        requests,
+        every,
     }
-    let held = comparing.check_table(policy, &table);
-    assert_eq!(held, Reply::accept((recorded - removed) as usize));
 }
 
 fn noise(chance: &mut Chance, length: usize) -> Vec<u8> {
@@ -106,18 +104,18 @@ fn small_list(comparing: &mut Comparing, chance: &mut Chance) {
     let accepted = Reply::accept(world.policy.rules.len());
     assert_eq!(comparing.check_policy(&world.image), accepted);
     let (blocks, length) = (chance.from(1, 3), chance.from(0, 200));
-    list(comparing, chance, &world, blocks, length, 4, 1);
+    list(chance, &world, blocks, length, 4, 1).run(comparing);
 }
 
 fn large_list(comparing: &mut Comparing, chance: &mut Chance) {
     let world = World::lenient(chance);
-    list(comparing, chance, &world, 128, 3_000, 1, 100);
+    list(chance, &world, 128, 3_000, 1, 100).run(comparing);
 }
 
 fn middling_list(comparing: &mut Comparing, chance: &mut Chance) {
     let world = World::large(chance);
     let blocks = chance.from(4, 24);
-    list(comparing, chance, &world, blocks, 24 * blocks, 1, 10);
+    list(chance, &world, blocks, 24 * blocks, 1, 10).run(comparing);
 }
 
 fn must_have_seen_in_lists(seen: &Seen, times: usize) {
@@ -136,8 +134,14 @@ fn must_have_seen_in_large_lists(seen: &Seen, times: usize) {
 #[test]
 fn small_lists() {
     let mut comparing = Comparing::new();
-    until(&mut comparing, "small lists", SEED, 1_000_000, small_list);
-    must_have_seen_in_lists(&comparing.seen, 5_000);
+    until(
+        &mut comparing,
+        "small lists",
+        SEED,
+        full(1_000_000),
+        small_list,
+    );
+    must_have_seen_in_lists(&comparing.seen, full(5_000));
     println!("{}", comparing.seen);
 }
 
@@ -162,19 +166,31 @@ fn large_lists() {
 // ---------------------------------------------------------------------------------------------
 // Tables that pass the check, but that no list leads to
 
+/// A list on a table that is given.
+fn list_on(policy: &[u8], table: Vec<u8>, requests: Vec<Vec<u8>>) -> List {
+    List {
+        policy: policy.to_vec(),
+        start: Start::Given(table),
+        requests,
+        every: 1,
+    }
+}
+
 fn strange_table(comparing: &mut Comparing, chance: &mut Chance) {
     let world = World::small(chance);
     let blocks = chance.from(1, 4);
     let count = chance.from(0, places(blocks));
     let records = world.records(chance, count);
-    let mut table = write_table(world.stamp(), &records, blocks);
+    let table = write_table(world.stamp(), &records, blocks);
     let accepted = Reply::accept(records.len());
     assert_eq!(comparing.check_table(&world.image, &table), accepted);
-    for _ in 0..chance.from(1, 30) {
-        let request = world.request(chance);
-        let bytes = request_bytes(chance, &request, 2);
-        comparing.decide(&world.image, &mut table, &bytes);
-    }
+    let requests = (0..chance.from(1, 30))
+        .map(|_| {
+            let request = world.request(chance);
+            request_bytes(chance, &request, 2)
+        })
+        .collect();
+    list_on(&world.image, table, requests).run(comparing);
 }
 
 fn strange_large_table(comparing: &mut Comparing, chance: &mut Chance) {
@@ -182,11 +198,11 @@ fn strange_large_table(comparing: &mut Comparing, chance: &mut Chance) {
     let blocks = chance.from(100, 128);
     let count = places(blocks) - chance.below(20);
     let records = world.records(chance, count);
-    let mut table = write_table(world.stamp(), &records, blocks);
-    for _ in 0..50 {
-        let request = world.request(chance);
-        comparing.decide(&world.image, &mut table, &write_request(&request));
-    }
+    let table = write_table(world.stamp(), &records, blocks);
+    let requests = (0..50)
+        .map(|_| write_request(&world.request(chance)).to_vec())
+        .collect();
+    list_on(&world.image, table, requests).run(comparing);
 }
 
 #[test]
@@ -196,12 +212,18 @@ fn strange_tables() {
         &mut comparing,
         "strange tables",
         SEED,
-        300_000,
+        full(300_000),
         strange_table,
     );
-    must_have_seen_in_lists(&comparing.seen, 1_000);
+    must_have_seen_in_lists(&comparing.seen, full(1_000));
     let large = strange_large_table;
-    until(&mut comparing, "strange large tables", SEED, 500, large);
+    until(
+        &mut comparing,
+        "strange large tables",
+        SEED,
+        full(500),
+        large,
+    );
     println!("{}", comparing.seen);
 }
 
@@ -214,18 +236,20 @@ fn busy_table(comparing: &mut Comparing, chance: &mut Chance) {
     let (policy, stamp) = (&busy.image, busy.stamp());
     let accepted = Reply::accept(busy.policy.rules.len());
     assert_eq!(comparing.check_policy(policy), accepted);
-    let mut table = write_table(stamp, &busy.records, busy.blocks);
+    let table = write_table(stamp, &busy.records, busy.blocks);
     let accepted = Reply::accept(busy.records.len());
     assert_eq!(comparing.check_table(policy, &table), accepted);
-    for _ in 0..chance.from(5, 25) {
-        let request = busy.request(chance);
-        let records = read_table(&busy.policy, stamp, &table, fits);
-        for what in busy.meets(&records.expect("a good table"), &request) {
-            comparing.seen.note(what);
+    let requests: Vec<Request> = (0..chance.from(5, 25))
+        .map(|_| busy.request(chance))
+        .collect();
+    let bytes = requests.iter().map(|one| write_request(one).to_vec());
+    list_on(policy, table, bytes.collect()).run_noting(comparing, |seen, table, i| {
+        let records = read_table(&busy.policy, stamp, table, fits);
+        for what in busy.meets(&records.expect("a good table"), &requests[i]) {
+            seen.note(what);
         }
-        comparing.seen.note(pool.name());
-        comparing.decide(policy, &mut table, &write_request(&request));
-    }
+        seen.note(pool.name());
+    });
 }
 
 fn must_have_seen_in_busy_tables(seen: &Seen, times: usize) {
@@ -238,97 +262,19 @@ fn must_have_seen_in_busy_tables(seen: &Seen, times: usize) {
 #[test]
 fn many_privileges() {
     let mut comparing = Comparing::new();
-    until(&mut comparing, "busy tables", SEED, 25_000, busy_table);
-    must_have_seen_in_busy_tables(&comparing.seen, 50);
+    until(
+        &mut comparing,
+        "busy tables",
+        SEED,
+        full(25_000),
+        busy_table,
+    );
+    must_have_seen_in_busy_tables(&comparing.seen, full(50));
     println!("{}", comparing.seen);
 }
 
 // ---------------------------------------------------------------------------------------------
 // Damaged images
-
-/// A number that stands on one side of some limit.
-fn telling(chance: &mut Chance, old: u8) -> u8 {
-    const LIMITS: [u8; 16] = [0, 1, 2, 3, 4, 5, 7, 8, 9, 15, 16, 32, 33, 61, 62, 255];
-    match chance.below(4) {
-        0 => old ^ 1 << chance.below(8),
-        1 => old.wrapping_add(1),
-        _ => chance.pick(&LIMITS),
-    }
-}
-
-/// Alters a byte, mostly one that has a meaning.
-fn alter_byte(chance: &mut Chance, image: &mut [u8]) {
-    if image.is_empty() {
-        return;
-    }
-    let block = 512 * chance.below(image.len().div_ceil(512));
-    let end = match chance.below(10) {
-        0..=3 => 64,
-        4..=7 => 400,
-        _ => 504,
-    };
-    let at = (block + chance.below(end)).min(image.len() - 1);
-    image[at] = telling(chance, image[at]);
-}
-
-/// Copies a field to another place of its block: two steps become equal, a role stands twice.
-fn copy_field(chance: &mut Chance, image: &mut [u8]) {
-    if image.len() < 512 {
-        return;
-    }
-    let block = 512 * chance.below(image.len() / 512);
-    let fields = chance.pick(&[16, 126]);
-    let from = block + 4 * chance.below(fields);
-    let to = block + 4 * chance.below(fields);
-    image.copy_within(from..from + 4, to);
-}
-
-/// Puts whole blocks in disorder.
-fn alter_blocks(chance: &mut Chance, image: &mut Vec<u8>) {
-    let blocks = image.len() / 512;
-    if blocks == 0 {
-        return;
-    }
-    let (one, other) = (512 * chance.below(blocks), 512 * chance.below(blocks));
-    let copy = image[one..one + 512].to_vec();
-    match chance.below(4) {
-        0 => image.truncate(image.len() - 512),
-        1 => image.extend(copy),
-        2 => image[other..other + 512].copy_from_slice(&copy),
-        _ => {
-            image.copy_within(other..other + 512, one);
-            image[other..other + 512].copy_from_slice(&copy);
-        }
-    }
-}
-
-/// Damages an image, mostly so that its checks are right again and deeper tests are reached.
-fn damage(chance: &mut Chance, image: &mut Vec<u8>) {
-    loop {
-        match chance.below(10) {
-            0 => alter_blocks(chance, image),
-            1 => copy_field(chance, image),
-            _ => alter_byte(chance, image),
-        }
-        if chance.percent(70) {
-            break;
-        }
-    }
-    if chance.percent(85) {
-        reseal(image);
-    }
-    if chance.percent(5) {
-        image.truncate(chance.below(image.len() + 1));
-    }
-}
-
-/// Writes a stamp into every block of a table.
-fn restamp(table: &mut [u8], stamp: (u32, u32)) {
-    for block in table.chunks_exact_mut(512) {
-        block[16..24].copy_from_slice(&sums_bytes(stamp));
-    }
-    reseal(table);
-}
 
 /// Puts all four calls to what may be damaged.
 fn all_calls(comparing: &mut Comparing, policy: &[u8], table: &[u8], request: &[u8]) {
@@ -384,8 +330,8 @@ fn must_have_seen_in_damaged_images(seen: &Seen, times: usize) {
 fn damaged() {
     let mut comparing = Comparing::new();
     let one = damaged_images;
-    until(&mut comparing, "damaged images", SEED, 200_000, one);
-    must_have_seen_in_damaged_images(&comparing.seen, 500);
+    until(&mut comparing, "damaged images", SEED, full(200_000), one);
+    must_have_seen_in_damaged_images(&comparing.seen, full(500));
     println!("{}", comparing.seen);
 }
 
@@ -429,9 +375,9 @@ fn every_byte(comparing: &mut Comparing, chance: &mut Chance) {
 #[test]
 fn every_byte_damaged() {
     let mut comparing = Comparing::new();
-    until(&mut comparing, "every byte", SEED, 60_000, every_byte);
+    until(&mut comparing, "every byte", SEED, full(60_000), every_byte);
     let seen = &comparing.seen;
-    seen.must_refuse("decide", &[2, 3, 4, 5, 6, 12, 13, 14, 15, 22], 30);
+    seen.must_refuse("decide", &[2, 3, 4, 5, 6, 12, 13, 14, 15, 22], full(30));
     println!("{seen}");
 }
 
@@ -463,6 +409,16 @@ fn lengths() {
         assert_eq!(reply.number == 21, length != 28);
     }
     comparing.seen.must_refuse("fresh_table", &[1, 11], 1_000);
+}
+
+/// What is printed of a list that fails ends where it first fails.
+#[test]
+fn shortest_failing_lists() {
+    for whole in 1..40 {
+        for first in 0..=whole {
+            assert_eq!(shortest(whole, |length| length >= first), first);
+        }
+    }
 }
 
 // ---------------------------------------------------------------------------------------------

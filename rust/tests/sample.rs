@@ -8,6 +8,7 @@ use independent::images::*;
 use independent::register::Register;
 use independent::Reply;
 use support::compare::Comparing;
+use support::plain;
 
 const LINES: &str = include_str!("../../examples/session.expected");
 
@@ -98,16 +99,7 @@ fn request(asked: &Asked) -> [u8; REQUEST] {
 
 /// A line of the trial program.
 fn line(ordinal: usize, reply: Reply) -> String {
-    let Reply {
-        number,
-        first,
-        second,
-        third,
-    } = reply;
-    match number {
-        0 => format!("{ordinal} grant {first} {second} {third}"),
-        _ => format!("{ordinal} refuse {number} {first} {second}"),
-    }
+    format!("{ordinal} {}", plain::line(reply))
 }
 
 #[test]

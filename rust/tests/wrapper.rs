@@ -7,81 +7,7 @@ use hastovimen::*;
 use independent::images;
 use support::chance::Chance;
 use support::world::World;
-
-fn privilege(privilege: images::Privilege) -> Privilege {
-    Operation::of(privilege.operation).on(Target::of(privilege.target))
-}
-
-fn role(role: u16) -> Role {
-    Role::of(role as u8)
-}
-
-fn rule(rule: &images::Rule) -> Rule {
-    let levels: Vec<Level> = (rule.levels.iter())
-        .map(|level| {
-            let kind = ContextType::of(level.kind);
-            match level.mark {
-                images::Mark::Fixed(value) => Level::fixed(kind, ContextValue::of(value)),
-                images::Mark::Every => Level::every(kind),
-                images::Mark::Each => Level::each(kind),
-            }
-        })
-        .collect();
-    let mut built = Rule::over(Levels::new(&levels).unwrap());
-    if let Some(first) = rule.first {
-        built = built.first(privilege(first));
-    }
-    if let Some(last) = rule.last {
-        built = built.last(privilege(last));
-    }
-    for exclusion in &rule.exclusions {
-        let m = exclusion.m as u8;
-        let exclusion = match &exclusion.members {
-            images::Members::Roles(roles) => {
-                let roles: Vec<Role> = roles.iter().map(|&one| role(one)).collect();
-                Exclusion::of_roles(m, &roles)
-            }
-            images::Members::Privileges(privileges) => {
-                let privileges: Vec<_> = privileges.iter().map(|&one| privilege(one)).collect();
-                Exclusion::of_privileges(m, &privileges)
-            }
-        };
-        built = built.exclude(exclusion.unwrap());
-    }
-    built
-}
-
-fn request(request: &images::Request) -> Request {
-    let levels: Vec<_> = (request.context.iter())
-        .map(|&(kind, value)| (ContextType::of(kind), ContextValue::of(value)))
-        .collect();
-    Request::new(
-        User::of(request.user),
-        Roles::from_bits(request.roles).unwrap(),
-        privilege(request.privilege),
-        Context::new(&levels).unwrap(),
-    )
-}
-
-/// The world's policy by the wrapper's builder, its permissions in as few blocks as they take.
-fn build(world: &World) -> (Vec<u8>, Vec<u8>) {
-    let mut builder = PolicyBuilder::new();
-    for one in &world.policy.rules {
-        builder = builder.rule(rule(one));
-    }
-    let entries: Vec<_> = world.policy.permissions.iter().flatten().copied().collect();
-    for entry in &entries {
-        builder = builder.permit(role(entry.role), privilege(entry.privilege));
-    }
-    let mut same = images::Policy {
-        rules: world.policy.rules.clone(),
-        permissions: entries.chunks(61).map(|block| block.to_vec()).collect(),
-    };
-    if same.rules.is_empty() && same.permissions.is_empty() {
-        same.permissions.push(vec![]);
-    }
-    (builder.build().unwrap(), images::write_policy(&same))
-}
+use support::wrapped::{build, privilege, request, role, rule};
 
 #[test]
 fn builders_and_readers() {
@@ -96,17 +22,18 @@ fn builders_and_readers() {
         let policy = Policy::check(&built).unwrap();
         let rules: Vec<Rule> = world.policy.rules.iter().map(rule).collect();
         assert_eq!(policy.rules().collect::<Vec<_>>(), rules);
-        assert_eq!(policy.rule_count() as usize, rules.len());
+        assert_eq!(policy.rule_count(), rules.len());
         let permissions = world.policy.permissions.iter().flatten();
         let permissions: Vec<_> = permissions
             .map(|entry| (role(entry.role), privilege(entry.privilege)))
             .collect();
         assert_eq!(policy.permissions().collect::<Vec<_>>(), permissions);
+        getters(&world, &policy);
 
         let blocks = chance.from(1, 4);
         let count = chance.from(0, images::places(blocks));
         let records = world.records(&mut chance, count);
-        let mut builder = TableBuilder::new(policy, blocks);
+        let mut builder = TableBuilder::new(&policy, blocks);
         for record in &records {
             let rules: Vec<u32> = (1..=32)
                 .filter(|r| record.marks >> (r - 1) & 1 == 1)
@@ -129,6 +56,44 @@ fn builders_and_readers() {
         // Shown as text, a table has a line for each record below its heading.
         assert_eq!(table.to_string().lines().count(), records.len() + 1);
         assert!(policy.to_string().lines().count() >= rules.len());
+    }
+}
+
+/// What the getters say, beside what the independent types have.
+fn getters(world: &World, policy: &Policy) {
+    for (rule, same) in policy.rules().zip(&world.policy.rules) {
+        assert_eq!(rule.depth(), same.levels.len());
+        for (level, same) in rule.levels().iter().zip(&same.levels) {
+            assert_eq!(level.context_type().get(), same.kind);
+            let value = level.value().map(|value| value.get());
+            let mark = match level.mark() {
+                Mark::Fixed(_) => images::Mark::Fixed(value.unwrap()),
+                Mark::Every => images::Mark::Every,
+                Mark::Each => images::Mark::Each,
+            };
+            assert_eq!(mark, same.mark);
+            assert_eq!(value.is_some(), matches!(level.mark(), Mark::Fixed(_)));
+        }
+        assert_eq!(rule.first_step(), same.first.map(privilege));
+        assert_eq!(rule.last_step(), same.last.map(privilege));
+        assert_eq!(rule.exclusions().len(), same.exclusions.len());
+        for (exclusion, same) in rule.exclusions().iter().zip(&same.exclusions) {
+            assert_eq!(u64::from(exclusion.m()), same.m as u64);
+            let (n, kind) = match (exclusion.members(), &same.members) {
+                (Members::Roles(roles), images::Members::Roles(same)) => {
+                    let same: Vec<_> = same.iter().map(|&one| role(one)).collect();
+                    assert_eq!(*roles, same);
+                    (same.len(), ExclusionKind::Roles)
+                }
+                (Members::Privileges(privileges), images::Members::Privileges(same)) => {
+                    let same: Vec<_> = same.iter().map(|&one| privilege(one)).collect();
+                    assert_eq!(*privileges, same);
+                    (same.len(), ExclusionKind::Privileges)
+                }
+                _ => panic!("roles for privileges"),
+            };
+            assert_eq!((exclusion.n(), exclusion.kind()), (n, kind));
+        }
     }
 }
 
@@ -170,19 +135,67 @@ fn what_cannot_be_built() {
     let policy = Policy::check(&full).unwrap();
     for blocks in [0, 129] {
         let error = Err(BuildError::TableBlocks(blocks));
-        assert_eq!(TableBuilder::new(policy, blocks).build(), error);
+        assert_eq!(TableBuilder::new(&policy, blocks).build(), error);
     }
     let request = Request::new(User::of(1), one, step, []);
     let records = |count, rules: &[u32]| {
-        let empty = TableBuilder::new(policy, 1);
+        let empty = TableBuilder::new(&policy, 1);
         (0..count).fold(empty, |table, _| table.record(request, rules))
     };
     assert!(records(15, &[1, 32]).build().is_ok());
     assert_eq!(records(16, &[1]).build(), Err(BuildError::Records(16)));
-    for rules in [&[][..], &[0], &[33]] {
-        let error = Err(BuildError::Marks { record: 1 });
-        assert_eq!(records(2, rules).build(), error);
+    assert_eq!(
+        records(2, &[]).build(),
+        Err(BuildError::NoMark { record: 1 })
+    );
+    for rule in [0, 33, u32::MAX] {
+        let error = Err(BuildError::RuleNumber { record: 1, rule });
+        assert_eq!(records(2, &[1, rule]).build(), error);
     }
+}
+
+/// A record is marked only for rules that the policy has and that its context fits: the builder
+/// refuses just what the engine would.
+#[test]
+fn marks_that_do_not_fit() {
+    let mut chance = Chance::new(2);
+    let mut seen = [0; 3];
+    for _ in 0..2_000 {
+        let world = World::small(&mut chance);
+        let policy = Policy::check(&world.image).unwrap();
+        let asked = world.request(&mut chance);
+        let rule = chance.from(1, 32) as u32;
+        let marked = images::Record {
+            request: asked.clone(),
+            marks: 1 << (rule - 1),
+        };
+        let image = images::write_table(world.stamp(), &[marked], 1);
+        let by_engine = policy.own_table(image.clone());
+        let built = TableBuilder::new(&policy, 1)
+            .record(request(&asked), &[rule])
+            .build();
+        let bad = Refusal::Record {
+            block: 0,
+            record: 1,
+        };
+        match built {
+            Ok(built) => {
+                assert_eq!(by_engine.unwrap().image(), built);
+                seen[0] += 1;
+            }
+            Err(BuildError::NoSuchRule { record: 1, rule: r }) => {
+                assert_eq!((r, by_engine.unwrap_err()), (rule, bad));
+                assert!(rule as usize > policy.rule_count());
+                seen[1] += 1;
+            }
+            Err(error) => {
+                assert_eq!(error, BuildError::DoesNotFit { record: 1, rule });
+                assert_eq!(by_engine.unwrap_err(), bad);
+                seen[2] += 1;
+            }
+        }
+    }
+    assert!(seen.iter().all(|&times| times > 50), "{seen:?}");
 }
 
 #[test]
@@ -215,13 +228,12 @@ fn threads() {
             scope.spawn(|| {
                 let mut table = policy.fresh_table(buffer).unwrap();
                 let request = Request::new(User::of(1), Role::of(1), step, []);
-                assert!(table.decide(&request).is_granted());
-                let again = table.decide(&request).refusal();
+                assert!(table.decide(&request).is_ok());
                 let expected = Refusal::ExclusivePrivileges {
                     rule: 1,
                     exclusion: 1,
                 };
-                assert_eq!(again, Some(expected));
+                assert_eq!(table.decide(&request), Err(expected));
             });
         }
     });

@@ -1,6 +1,7 @@
 //! One call put to the engine and to both independent judges, and all that comes of it compared.
 
 use super::lent::{Lay, Lent};
+use super::plain;
 use crate::independent::{judge, quick, Reply};
 use hastovimen::raw;
 use std::collections::BTreeMap;
@@ -130,7 +131,7 @@ impl Comparing {
 
     pub fn check_policy(&mut self, policy: &[u8]) -> Reply {
         self.lay(policy, &[], &[]);
-        let reply = plain(raw::check_policy(self.policy.bytes()));
+        let reply = plain::count(raw::check_policy(self.policy.bytes()));
         assert_eq!(reply, quick::check_policy(policy), "quick judge");
         assert_eq!(reply, judge::check_policy(policy), "judge");
         self.nothing_altered(policy, &[], &[]);
@@ -139,7 +140,7 @@ impl Comparing {
 
     pub fn check_table(&mut self, policy: &[u8], table: &[u8]) -> Reply {
         self.lay(policy, table, &[]);
-        let reply = plain(raw::check_table(self.policy.bytes(), self.table.bytes()));
+        let reply = plain::count(raw::check_table(self.policy.bytes(), self.table.bytes()));
         assert_eq!(reply, quick::check_table(policy, table), "quick judge");
         assert_eq!(reply, judge::check_table(policy, table), "judge");
         self.nothing_altered(policy, table, &[]);
@@ -149,7 +150,7 @@ impl Comparing {
     /// Makes a fresh table in `table`, whatever it holds.
     pub fn fresh_table(&mut self, policy: &[u8], table: &mut [u8]) -> Reply {
         self.lay(policy, table, &[]);
-        let reply = plain(raw::fresh_table(
+        let reply = plain::count(raw::fresh_table(
             self.policy.bytes(),
             self.table.bytes_mut(),
         ));
@@ -163,7 +164,7 @@ impl Comparing {
     /// Decides, and brings `table` up to date.
     pub fn decide(&mut self, policy: &[u8], table: &mut [u8], request: &[u8]) -> Reply {
         self.lay(policy, table, request);
-        let reply = plain(raw::decide(
+        let reply = plain::grant(raw::decide(
             self.policy.bytes(),
             self.table.bytes_mut(),
             self.request.bytes(),
@@ -220,15 +221,5 @@ impl Comparing {
         self.calls += 1;
         self.seen.take(call, reply);
         reply
-    }
-}
-
-/// The engine's reply in the type of the independent judges.
-fn plain(reply: raw::Reply) -> Reply {
-    Reply {
-        number: reply.number,
-        first: reply.first,
-        second: reply.second,
-        third: reply.third,
     }
 }

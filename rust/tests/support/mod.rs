@@ -1,4 +1,5 @@
-//! What the tests have in common: numbers by chance, worlds to try, lent memory, and the comparing.
+//! What the tests have in common: numbers by chance, worlds to try, lent memory, the comparing, and
+//! lists that are played through it.
 
 // Each test takes in this module whole and uses a part of it.
 #![allow(dead_code)]
@@ -6,5 +7,9 @@
 pub mod busy;
 pub mod chance;
 pub mod compare;
+pub mod damage;
 pub mod lent;
+pub mod lists;
+pub mod plain;
 pub mod world;
+pub mod wrapped;

@@ -1,14 +1,20 @@
 //! The four C functions of include/sod.h from the independent judge, so that wrapper, examples and
-//! tests can be tried where the engine's archive is not at hand. For the feature `stand-in` only.
-
-#![allow(unsafe_code)]
+//! tests can be tried where the engine's archive is not at hand. That judge is tested, not proved.
 
 #[path = "../independent/mod.rs"]
 mod independent;
 
-use crate::raw::Reply;
 use independent::quick;
 use std::slice::{from_raw_parts, from_raw_parts_mut};
+
+/// `sod_reply` of include/sod.h.
+#[repr(C)]
+pub struct Reply {
+    number: u32,
+    first: u32,
+    second: u32,
+    third: u32,
+}
 
 impl From<independent::Reply> for Reply {
     fn from(reply: independent::Reply) -> Reply {

@@ -1,0 +1,97 @@
+//! include/sod.h, read as text: each of its numbers and sizes is that of a constant in Rust.
+
+use hastovimen::*;
+use std::collections::BTreeMap;
+
+const HEADER: &str = include_str!("../../include/sod.h");
+
+/// What the header defines, by name: `#define SOD_NAME value` and `SOD_NAME = value` in an enum.
+fn defined() -> BTreeMap<String, String> {
+    let mut defined = BTreeMap::new();
+    let text = without_comments(HEADER);
+    for line in text.lines() {
+        if let Some(definition) = line.trim().strip_prefix("#define ") {
+            let (name, value) = definition.split_once(' ').unwrap_or((definition, ""));
+            defined.insert(name.to_owned(), value.trim().to_owned());
+        }
+    }
+    for piece in text.split(['\n', ',', '{', '}']) {
+        if let Some((name, value)) = piece.split_once('=') {
+            defined.insert(name.trim().to_owned(), value.trim().to_owned());
+        }
+    }
+    defined.retain(|name, value| name.starts_with("SOD_") && !value.is_empty());
+    defined
+}
+
+fn without_comments(text: &str) -> String {
+    let mut parts = text.split("/*");
+    let mut rest = parts.next().unwrap_or_default().to_owned();
+    for part in parts {
+        rest += part.split_once("*/").expect("the comment ends").1;
+    }
+    rest
+}
+
+fn refusals() -> [(&'static str, Refusal); 17] {
+    let (block, entry, record) = (0, 0, 1);
+    let (rule, exclusion) = (1, 1);
+    [
+        ("SOD_POLICY_LENGTH", Refusal::PolicyLength),
+        ("SOD_POLICY_CHECK", Refusal::PolicyCheck { block }),
+        ("SOD_POLICY_HEADER", Refusal::PolicyHeader { block }),
+        ("SOD_POLICY_RULE", Refusal::Rule { block }),
+        (
+            "SOD_POLICY_EXCLUSION",
+            Refusal::Exclusion { block, exclusion },
+        ),
+        (
+            "SOD_POLICY_PERMISSION",
+            Refusal::Permission { block, entry },
+        ),
+        ("SOD_TABLE_LENGTH", Refusal::TableLength),
+        ("SOD_TABLE_CHECK", Refusal::TableCheck { block }),
+        ("SOD_TABLE_HEADER", Refusal::TableHeader { block }),
+        ("SOD_TABLE_STAMP", Refusal::TableStamp { block }),
+        ("SOD_TABLE_RECORD", Refusal::Record { block, record }),
+        ("SOD_REQUEST_LENGTH", Refusal::RequestLength),
+        ("SOD_REQUEST_FIELD", Refusal::RequestField),
+        ("SOD_NOT_PERMITTED", Refusal::NotPermitted),
+        (
+            "SOD_EXCLUSIVE_ROLES",
+            Refusal::ExclusiveRoles { rule, exclusion },
+        ),
+        (
+            "SOD_EXCLUSIVE_PRIVILEGES",
+            Refusal::ExclusivePrivileges { rule, exclusion },
+        ),
+        ("SOD_TABLE_FULL", Refusal::TableFull),
+    ]
+}
+
+const SIZES: [(&str, usize); 7] = [
+    ("SOD_STACK", STACK),
+    ("SOD_BLOCK", BLOCK),
+    ("SOD_REQUEST", Request::LENGTH),
+    ("SOD_RECORD", Record::LENGTH),
+    ("SOD_RECORDS_PER_BLOCK", RECORDS_PER_BLOCK),
+    ("SOD_MOST_POLICY_BLOCKS", MOST_POLICY_BLOCKS),
+    ("SOD_MOST_TABLE_BLOCKS", MOST_TABLE_BLOCKS),
+];
+
+#[test]
+fn numbers_and_sizes() {
+    let numbers = refusals().map(|(name, refusal)| (name, refusal.number().to_string()));
+    let sizes = SIZES.map(|(name, size)| (name, size.to_string()));
+    let mut here: BTreeMap<&str, String> = numbers.into_iter().chain(sizes).collect();
+    let header = defined();
+    // A header without a version is from before there was one.
+    if header.contains_key("SOD_VERSION") {
+        here.insert("SOD_VERSION", format!("{VERSION:?}"));
+    }
+    for (name, value) in &header {
+        let same = here.remove(name.as_str());
+        assert_eq!(same.as_ref(), Some(value), "{name} is no constant in Rust");
+    }
+    assert!(here.is_empty(), "the header lacks {here:?}");
+}

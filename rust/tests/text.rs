@@ -1,0 +1,292 @@
+//! Whatever is shown as text is read from it, and from no other text; and it goes by the width and
+//! alignment of a format string as any text does.
+
+mod independent;
+mod support;
+
+use hastovimen::*;
+use std::fmt::{Debug, Display};
+use std::str::FromStr;
+use support::chance::Chance;
+use support::world::World;
+use support::wrapped::{privilege, request, rule};
+
+/// How many altered texts were read, and how many not.
+#[derive(Default)]
+struct Altered {
+    read: usize,
+    not_read: usize,
+}
+
+impl Altered {
+    /// Shows a value and reads it back, then alters the text: what is read of it shows just that.
+    fn try_out<T>(&mut self, chance: &mut Chance, value: &T)
+    where
+        T: Display + FromStr<Err = ParseError> + PartialEq + Debug,
+    {
+        let text = value.to_string();
+        assert_eq!(text.parse().as_ref(), Ok(value), "{text}");
+        for _ in 0..4 {
+            let altered = alter(chance, &text);
+            match altered.parse::<T>() {
+                Ok(other) => {
+                    assert_eq!(other.to_string(), altered);
+                    assert_eq!(other == *value, altered == text);
+                    self.read += 1;
+                }
+                Err(error) => {
+                    assert_ne!(altered, text);
+                    assert!(!error.to_string().is_empty());
+                    self.not_read += 1;
+                }
+            }
+        }
+    }
+}
+
+/// Alters a character or two: most are put in from the text itself, as these do the most harm.
+fn alter(chance: &mut Chance, text: &str) -> String {
+    let mut characters: Vec<char> = text.chars().collect();
+    let strange = ['0', '1', '9', '+', '-', ' ', '\n', ',', '=', '!', 'é', 's'];
+    loop {
+        let at = chance.below(characters.len() + 1);
+        let new = match chance.below(2) {
+            0 => chance.pick(&strange),
+            _ => chance.pick(&text.chars().collect::<Vec<_>>()),
+        };
+        match chance.below(3) {
+            0 => characters.insert(at, new),
+            1 if at < characters.len() => characters[at] = new,
+            _ if at < characters.len() => drop(characters.remove(at)),
+            _ => {}
+        }
+        if chance.percent(70) {
+            return characters.iter().collect();
+        }
+    }
+}
+
+/// Shown with a width, an alignment, a fill and a precision, as its text is.
+fn as_its_text(value: &impl Display) {
+    let text = value.to_string();
+    assert_eq!(format!("{value:>90}"), format!("{text:>90}"));
+    assert_eq!(format!("{value:<90}|"), format!("{text:<90}|"));
+    assert_eq!(format!("{value:*^91}"), format!("{text:*^91}"));
+    assert_eq!(format!("{value:.5}"), format!("{text:.5}"));
+    assert_eq!(format!("{value:9.3}|"), format!("{text:9.3}|"));
+    assert_eq!(format!("{value:+}"), text);
+    assert_eq!(format!("{value:#}"), text);
+}
+
+#[test]
+fn parts_of_policies_and_tables() {
+    let mut chance = Chance::new(11);
+    let mut altered = Altered::default();
+    for _ in 0..200 {
+        let world = World::small(&mut chance);
+        for one in &world.policy.rules {
+            let rule = rule(one);
+            altered.try_out(&mut chance, &rule);
+            altered.try_out(&mut chance, &rule.levels());
+            as_its_text(&rule.levels());
+            for level in rule.levels().iter() {
+                altered.try_out(&mut chance, &level);
+                as_its_text(&level);
+            }
+            for exclusion in rule.exclusions() {
+                altered.try_out(&mut chance, exclusion);
+                as_its_text(exclusion);
+            }
+        }
+        let records = world.records(&mut chance, 5);
+        let bytes = independent::images::write_table(world.stamp(), &records, 1);
+        let policy = Policy::check(&world.image).unwrap();
+        for record in policy.own_table(bytes).unwrap().records() {
+            altered.try_out(&mut chance, &record);
+            altered.try_out(&mut chance, &record.marks);
+            as_its_text(&record);
+            as_its_text(&record.marks);
+        }
+    }
+    assert!(altered.read > 1_000, "{} read", altered.read);
+    assert!(altered.not_read > 1_000, "{} not read", altered.not_read);
+}
+
+#[test]
+fn requests() {
+    let mut chance = Chance::new(12);
+    let mut altered = Altered::default();
+    for _ in 0..500 {
+        let world = World::small(&mut chance);
+        let one = world.request(&mut chance);
+        let request = request(&one);
+        assert_eq!(request.privilege, privilege(one.privilege));
+        altered.try_out(&mut chance, &request);
+        altered.try_out(&mut chance, &request.user);
+        altered.try_out(&mut chance, &request.roles);
+        altered.try_out(&mut chance, &request.privilege);
+        altered.try_out(&mut chance, &request.privilege.operation);
+        altered.try_out(&mut chance, &request.privilege.target);
+        altered.try_out(&mut chance, &request.context);
+        for (kind, value) in request.context.levels() {
+            altered.try_out(&mut chance, &kind);
+            altered.try_out(&mut chance, &value);
+        }
+        for role in request.roles.iter() {
+            altered.try_out(&mut chance, &role);
+        }
+        as_its_text(&request);
+        as_its_text(&request.roles);
+        as_its_text(&request.privilege);
+        as_its_text(&request.context);
+    }
+    assert!(altered.read > 1_000, "{} read", altered.read);
+    assert!(altered.not_read > 1_000, "{} not read", altered.not_read);
+}
+
+/// All answers of lists by chance, and one refusal of each number.
+#[test]
+fn grants_and_refusals() {
+    let mut chance = Chance::new(13);
+    let mut altered = Altered::default();
+    let mut try_out = |chance: &mut Chance, line: Line| {
+        altered.try_out(chance, &line);
+        as_its_text(&line);
+        match line.0 {
+            Ok(grant) => {
+                altered.try_out(chance, &grant);
+                as_its_text(&grant);
+            }
+            Err(refusal) => {
+                altered.try_out(chance, &refusal);
+                as_its_text(&refusal);
+            }
+        }
+    };
+    for _ in 0..200 {
+        let world = World::small(&mut chance);
+        let policy = Policy::check(&world.image).unwrap();
+        let mut table = policy.new_table(1).unwrap();
+        for _ in 0..20 {
+            let line = Line(table.decide(&request(&world.request(&mut chance))));
+            try_out(&mut chance, line);
+        }
+    }
+    for number in [1, 2, 3, 4, 5, 6, 11, 12, 13, 14, 15, 21, 22, 31, 32, 33, 34] {
+        for places in ["0 0", "7 0", "31 8"] {
+            let line: Line = format!("refuse {number} {places}").parse().unwrap();
+            try_out(&mut chance, line);
+        }
+    }
+    assert!(altered.read > 1_000, "{} read", altered.read);
+    assert!(altered.not_read > 1_000, "{} not read", altered.not_read);
+}
+
+/// A policy's text builds the same rules and permissions again, and where the permissions were
+/// packed, the same image.
+#[test]
+fn policies() {
+    let mut chance = Chance::new(14);
+    let mut altered = Altered::default();
+    for _ in 0..200 {
+        let world = World::small(&mut chance);
+        let text = Policy::check(&world.image).unwrap().to_string();
+        let builder: PolicyBuilder = text.parse().unwrap();
+        assert_eq!(builder.to_string(), text);
+        let built = Policy::own(builder.build().unwrap()).unwrap();
+        assert_eq!(built.to_string(), text);
+        assert_eq!(built.image(), support::wrapped::build(&world).0);
+        altered.try_out(&mut chance, &builder);
+    }
+    assert!(altered.read > 50, "{} read", altered.read);
+    assert!(altered.not_read > 50, "{} not read", altered.not_read);
+}
+
+#[test]
+fn numbers_as_numbers() {
+    let user = User::of(7);
+    assert_eq!(
+        format!("{user:>4}|{user:<4}|{user:04}|{user:+}"),
+        "   7|7   |0007|+7"
+    );
+    let role = Role::of(32);
+    assert_eq!(format!("{role:^6}|{role:*<3}"), "  32  |32*");
+}
+
+#[test]
+fn what_is_not_read() {
+    fn form<T: FromStr<Err = ParseError> + Debug>(text: &str) {
+        let error = text.parse::<T>().unwrap_err();
+        assert!(
+            matches!(error, ParseError::Form { .. }),
+            "{text}: {error:?}"
+        );
+    }
+    for text in [
+        "",
+        " 1",
+        "1 ",
+        "+1",
+        "-1",
+        "01",
+        "0x1",
+        "99999999999999999999",
+    ] {
+        form::<User>(text);
+    }
+    fn out_of_range<T: FromStr<Err = ParseError> + Debug>(text: &str) {
+        let error = text.parse::<T>().unwrap_err();
+        assert!(
+            matches!(error, ParseError::OutOfRange(_)),
+            "{text}: {error:?}"
+        );
+    }
+    out_of_range::<User>("0");
+    out_of_range::<User>("4294967296");
+    out_of_range::<Role>("33");
+    out_of_range::<Operation>("65536");
+    out_of_range::<Privilege>("1 on 0");
+    out_of_range::<Context>("1=0");
+    for text in [
+        "1=1, 1=1, 1=1, 1=1, 1=1",
+        "",
+        "1=1,2=2",
+        "1",
+        "the whole  business",
+    ] {
+        form::<Context>(text);
+    }
+    form::<Levels>("1=*, 1=!, 1=1, 1=1, 1=1");
+    for text in ["2, 1", "1, 1", "1,2", "1, "] {
+        form::<Roles>(text);
+        form::<Marks>(text);
+    }
+    form::<Marks>("33");
+    form::<Marks>("0");
+    for text in [
+        "grant 2 0 1",
+        "grant 1 0",
+        "grant 1 0 1 0",
+        "grant  1 0 1",
+        "refuse 33 1 1",
+    ] {
+        form::<Grant>(text);
+    }
+    for text in [
+        "refuse 0 0 0",
+        "refuse 33 1",
+        "refused 33 1 1",
+        "31: no active role",
+    ] {
+        form::<Line>(text);
+        form::<Refusal>(text);
+    }
+    form::<Refusal>("31: no active role has the permission.");
+    form::<Request>("user 7 in roles 1: 1 on 1 at 1=5");
+    form::<Request>("user 7 in role 1, 2: 1 on 1 at 1=5");
+    form::<Rule>("over 1=*\n  exclusion 2: 2 of roles 1, 2");
+    form::<Rule>("over 1=*; last step 1 on 1; first step 2 on 1");
+    form::<PolicyBuilder>("rule 2: over 1=*\n  exclusion 1: 2 of roles 1, 2\n");
+    let twice = "2 of roles 1, 1".parse::<Exclusion>().unwrap_err();
+    assert_eq!(twice, ParseError::Build(BuildError::RoleTwice(Role::of(1))));
+}
