@@ -9,16 +9,22 @@
 //! Each workload is measured in rounds: in every round the engine, the Rust judge and the sums each
 //! get some calls, every call on a copy of the table of its own that was made before the clock ran.
 //! Printed is the median over the rounds of the time of one call.
+//!
+//!     SOD_BEFORE=/path/to/libsod.so cargo bench --offline
+//!
+//! measures an earlier engine, as a shared library, in the same rounds.
 
 #[path = "../tests/support/chance.rs"]
 #[allow(dead_code)]
 mod chance;
+mod earlier;
 #[path = "../tests/independent/mod.rs"]
 mod independent;
 #[path = "../tests/support/plain.rs"]
 mod plain;
 
 use chance::Chance;
+use earlier::Earlier;
 use hastovimen::raw;
 use independent::images::*;
 use independent::{quick, Reply};
@@ -51,8 +57,9 @@ fn main() {
         marks: |i| 0xFFFF_FFFE ^ (i as u32) << 8,
         ..alike
     });
-    println!("Median time of one call in microseconds; the last three columns are ratios.\n");
-    heading();
+    let before = Earlier::load();
+    println!("Median time of one call in microseconds; the last columns are ratios.\n");
+    heading(&before);
     let workloads = [
         typical.workloads(),
         worst.workloads(),
@@ -64,15 +71,15 @@ fn main() {
     let word = std::env::args().skip(1).find(|a| !a.starts_with("--"));
     let chosen = |w: &&Workload| word.as_ref().is_none_or(|word| w.name.contains(word));
     for workload in workloads.iter().flatten().filter(chosen) {
-        row(workload);
+        row(workload, &before);
     }
     if word.is_some() {
         return;
     }
     println!("\nGrowth: a refusal by 33 on a full table, by its blocks.\n");
-    heading();
+    heading(&before);
     for workload in typical.growth() {
-        row(&workload);
+        row(&workload, &before);
     }
 }
 
@@ -84,20 +91,32 @@ fn other(i: usize) -> u16 {
     }
 }
 
-fn heading() {
-    println!(
+fn heading(before: &Option<Earlier>) {
+    print!(
         "| {:<45} | {:>8} | {:>8} | {:>8} | {:>11} | {:>11} | {:>9} |",
         "workload", "engine", "Rust", "sums", "engine/Rust", "engine/sums", "Rust/sums"
     );
     println!(
+        "{}",
+        before
+            .as_ref()
+            .map_or("", |_| "   before | engine/before |")
+    );
+    print!(
         "|{:-<47}|{:->10}|{:->10}|{:->10}|{:->13}|{:->13}|{:->11}|",
         "", ":", ":", ":", ":", ":", ":"
     );
+    println!(
+        "{}",
+        before
+            .as_ref()
+            .map_or("", |_| "---------:|--------------:|")
+    );
 }
 
-fn row(workload: &Workload) {
-    let [engine, rust, sums] = workload.measure();
-    println!(
+fn row(workload: &Workload, before: &Option<Earlier>) {
+    let [engine, rust, sums, earlier] = workload.measure(before);
+    print!(
         "| {:<45} | {:>8.2} | {:>8.2} | {:>8.2} | {:>11.2} | {:>11.2} | {:>9.2} |",
         workload.name,
         engine,
@@ -107,6 +126,10 @@ fn row(workload: &Workload) {
         engine / sums,
         rust / sums
     );
+    if before.is_some() {
+        print!(" {earlier:>8.2} | {:>13.3} |", engine / earlier);
+    }
+    println!();
 }
 
 // ---------------------------------------------------------------------------------------------
@@ -133,17 +156,21 @@ struct Workload {
 const ROUNDS: usize = 301;
 
 impl Workload {
-    /// Microseconds for engine, Rust and sums.
-    fn measure(&self) -> [f64; 3] {
+    /// Microseconds for engine, Rust, sums, and the earlier engine if there is one.
+    fn measure(&self, before: &Option<Earlier>) -> [f64; 4] {
         self.agree();
         // As many copies as stay in the caches near the processor.
         let copies = (256 * 1024 / (self.table.len() + 1)).clamp(1, 64);
         let mut tables = vec![self.table.clone(); copies];
-        let mut times = [const { vec![] }; 3];
+        let mut times = [const { vec![] }; 4];
         for _ in 0..ROUNDS {
             times[0].push(self.time(&mut tables, |w, table| w.by_engine(table)));
             times[1].push(self.time(&mut tables, |w, table| w.by_rust(table)));
             times[2].push(self.time(&mut tables, |w, table| w.by_sums(table)));
+            times[3].push(match before {
+                None => 0.0,
+                Some(earlier) => self.time(&mut tables, |w, table| w.by_earlier(earlier, table)),
+            });
         }
         times.map(median)
     }
@@ -158,6 +185,15 @@ impl Workload {
             black_box(call(black_box(self), table));
         }
         begin.elapsed().as_secs_f64() * 1e6 / tables.len() as f64
+    }
+
+    fn by_earlier(&self, earlier: &Earlier, table: &mut [u8]) -> earlier::Reply {
+        match self.call {
+            Call::CheckPolicy => earlier.check_policy(&self.policy),
+            Call::CheckTable => earlier.check_table(&self.policy, table),
+            Call::FreshTable => earlier.fresh_table(&self.policy, table),
+            Call::Decide => earlier.decide(&self.policy, table, &self.request),
+        }
     }
 
     fn by_engine(&self, table: &mut [u8]) -> Reply {

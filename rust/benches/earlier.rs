@@ -1,0 +1,79 @@
+//! An earlier engine, for a benchmark of both in one run: the shared library that `SOD_BEFORE` names.
+
+use std::ffi::{c_char, c_int, c_void, CString};
+
+extern "C" {
+    fn dlopen(file: *const c_char, flags: c_int) -> *mut c_void;
+    fn dlsym(library: *mut c_void, name: *const c_char) -> *mut c_void;
+}
+
+const RTLD_NOW: c_int = 2;
+
+/// `sod_reply` of include/sod.h.
+#[repr(C)]
+pub struct Reply([u32; 4]);
+
+type CheckPolicy = unsafe extern "C" fn(*const u8, usize) -> Reply;
+type CheckTable = unsafe extern "C" fn(*const u8, usize, *const u8, usize) -> Reply;
+type FreshTable = unsafe extern "C" fn(*const u8, usize, *mut u8, usize) -> Reply;
+type Decide = unsafe extern "C" fn(*const u8, usize, *mut u8, usize, *const u8, usize) -> Reply;
+
+/// The four calls of that engine.
+pub struct Earlier {
+    check_policy: CheckPolicy,
+    check_table: CheckTable,
+    fresh_table: FreshTable,
+    decide: Decide,
+}
+
+impl Earlier {
+    /// The engine that the environment names, if it names one.
+    pub fn load() -> Option<Earlier> {
+        let file = std::env::var("SOD_BEFORE").ok()?;
+        let path = CString::new(file.as_str()).expect("a path");
+        // SAFETY: the functions are those of include/sod.h, with the types that it gives.
+        unsafe {
+            let library = dlopen(path.as_ptr(), RTLD_NOW);
+            assert!(!library.is_null(), "{file} cannot be loaded");
+            let find = |name: &CString| {
+                let found = dlsym(library, name.as_ptr());
+                assert!(!found.is_null(), "{file} has no {name:?}");
+                found
+            };
+            let named = |name: &str| find(&CString::new(name).expect("a name"));
+            Some(Earlier {
+                check_policy: std::mem::transmute::<*mut c_void, CheckPolicy>(named(
+                    "sod_check_policy",
+                )),
+                check_table: std::mem::transmute::<*mut c_void, CheckTable>(named(
+                    "sod_check_table",
+                )),
+                fresh_table: std::mem::transmute::<*mut c_void, FreshTable>(named(
+                    "sod_fresh_table",
+                )),
+                decide: std::mem::transmute::<*mut c_void, Decide>(named("sod_decide")),
+            })
+        }
+    }
+
+    // SAFETY, of all four: each pointer and length are those of one live slice, and what is written is borrowed mutably.
+
+    pub fn check_policy(&self, policy: &[u8]) -> Reply {
+        unsafe { (self.check_policy)(policy.as_ptr(), policy.len()) }
+    }
+
+    pub fn check_table(&self, policy: &[u8], table: &[u8]) -> Reply {
+        unsafe { (self.check_table)(policy.as_ptr(), policy.len(), table.as_ptr(), table.len()) }
+    }
+
+    pub fn fresh_table(&self, policy: &[u8], table: &mut [u8]) -> Reply {
+        let (bytes, len) = (table.as_mut_ptr(), table.len());
+        unsafe { (self.fresh_table)(policy.as_ptr(), policy.len(), bytes, len) }
+    }
+
+    pub fn decide(&self, policy: &[u8], table: &mut [u8], request: &[u8]) -> Reply {
+        let (bytes, len) = (table.as_mut_ptr(), table.len());
+        let (asked, asked_len) = (request.as_ptr(), request.len());
+        unsafe { (self.decide)(policy.as_ptr(), policy.len(), bytes, len, asked, asked_len) }
+    }
+}
