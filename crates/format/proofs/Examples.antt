@@ -485,11 +485,6 @@ pub depots-pass : policyFault depots ≡ none
 unfolding opened
 depots-pass = refl
 
--- "Acceptance returns a policy's rules"
-pub policies-good : checkPolicy depots ≡ accept 1
-unfolding checkPolicy accepting ruleCount sumBelow flatten sealed sumBytes
-policies-good = rw depots-pass refl
-
 -- what a policy says: "Rule r (from 1) is block r - 1", here with 1 and 2 exclusions, then two permission blocks of one entry each
 pub policies-read :
     (let p = policyOf (flatten (map unsealed (ruleBytes 0 4 (0 ∷ 1 ∷ []) [] ∷ ruleBytes 1 4 (0 ∷ 2 ∷ []) [] ∷ permissionBytes 2 4 1 (entry 1 2 3) ∷ permissionBytes 3 4 1 (entry 4 5 6) ∷ []))) in
@@ -578,7 +573,7 @@ unfolding opened
 stamp-of-all-words = refl
 
 -- "numbers within a block upwards", "the first bad .. record": a full block whose second and last records are marked for a rule that does not fit, with a
--- wrong check, kind and stamp; with a wrong kind and stamp; with a wrong stamp; with none of these
+-- wrong check, kind and stamp; with a wrong kind and stamp; with a wrong stamp; with none of these. Then a good block of 14
 pub tables-numbers-upwards :
     (let bad = good 1 ++ kept (2 ∷ 5 ∷ []) 1 ++ good 12 ++ kept (2 ∷ 5 ∷ []) 1 in
     map (λ s. tableBlockFault twoRules stamped s 0)
@@ -586,8 +581,9 @@ pub tables-numbers-upwards :
     ∷ whole (head 9 0 1 ++ bytes2 15 ++ zeros 14 ++ bad)
     ∷ whole (tableBytes 0 1 15 (record { a = 3; b = 5 }) bad)
     ∷ whole (tableBytes 0 1 15 stamped bad)
+    ∷ whole (tableBytes 0 1 14 stamped (good 14))
     ∷ []))
-    ≡ some (refusal 12 0 0) ∷ some (refusal 13 0 0) ∷ some (refusal 14 0 0) ∷ some (refusal 15 0 2) ∷ []
+    ≡ some (refusal 12 0 0) ∷ some (refusal 13 0 0) ∷ some (refusal 14 0 0) ∷ some (refusal 15 0 2) ∷ none ∷ []
 unfolding opened
 tables-numbers-upwards = refl
 
@@ -613,18 +609,16 @@ tables-filled = refl
 
 -- ---- the calls
 
--- a table of one block and 14 records under the policy of one rule; it passes its check, computed once
-abbrev depotsTable : List ℕ
-depotsTable = whole (tableBytes 0 1 14 (stamp depots) (good 14))
+-- "Acceptance returns a policy's rules, a table's records", of any policy that passes and any table that passes under it
+pub policies-good : (policy : List ℕ) → policyFault policy ≡ none → ruleCount policy ≡ 3 → checkPolicy policy ≡ accept 3
+unfolding checkPolicy accepting
+policies-good policy p n = rw (p, n) refl
 
-pub depots-table-passes : tableFault depots depotsTable ≡ none
-unfolding opened
-depots-table-passes = refl
-
--- "Acceptance returns .. a table's records"
-pub tables-good : checkTable depots depotsTable ≡ accept 14
-unfolding checkTable accepting _orElse_ recordsOf tab flatten sealed sumBytes
-tables-good = rw (depots-pass, depots-table-passes) refl
+pub tables-good :
+    (policy table : List ℕ) → policyFault policy ≡ none → tableFault policy table ≡ none → length (recordsOf table) ≡ 14
+    → checkTable policy table ≡ accept 14
+unfolding checkTable accepting _orElse_
+tables-good policy table p t n = rw (p, t, n) refl
 
 -- "check a table under a policy, make a fresh table in a lent buffer (1 to 6, then 11)": the policy's numbers before the table's
 pub calls-refused : (checkTable [] [] ∷ makeTable [] (7 ∷ []) .answer ∷ []) ≡ replicate 2 (refuse (refusal 1 0 0))

@@ -2,18 +2,18 @@
 -- crate's must-fail edits. No edit alters the sample session (Sample): it is the paper's data, and its fifteen lines are proved in crate demand3. Nor
 -- timesDone, permitted, isLast, recordOf, tableAfter: edits put something else in their place where they are used.
 -- Assumes nothing.
-use Prim.Native.Nat.{ℕ}
+use Prim.Native.Nat.{ℕ, _*_}
 use mathlib.Core.Path.{_≡_, refl}
 use mathlib.Core.Bool.{true, false}
 use mathlib.Core.List.{List, [], _∷_, _++_, map}
-use mathlib.Core.Option.{none, some}
+use mathlib.Core.Option.{Option, none, some}
 use lib.ListN.{length, getD, drop}
 use Rattle.words.specs.Lists.{keep, anyOf, allBelow, anyBelow, sumBelow, tab, sameList}
 use Rattle.words.specs.First.{_orElse_, unless, first}
 use Rattle.words.specs.Bytes.{bytes2, bytes4, zeros, bit, bits}
-use Rattle.format.specs.Answer.{refusal, grant, refuse, refusing}
+use Rattle.format.specs.Answer.{Refusal, refusal, Answer, grant, refuse, Outcome, refusing}
 use Rattle.format.specs.Block.{blocks, goodLength}
-use Rattle.format.specs.Request.{Request, hasRole, usedLevel, blankLevel, depthOf, goodContext, goodRequest, requestFault}
+use Rattle.format.specs.Request.{Request, hasRole, usedLevel, depthOf, requestFault}
 use Rattle.format.specs.Rule.{Rule, Level, Exclusion, Privilege, Step}
 use Rattle.format.specs.Fits.{fits, levelFits, place, placeValue, samePlace}
 use Rattle.format.specs.Policy.{Policy, Permission}
@@ -332,28 +332,29 @@ pub rows-table :
 unfolding decideFault decide tableFault tableLengthFault goodLength refusing _orElse_ unless
 rows-table policy passes = rw passes refl
 
--- any policy and table that pass: the policy says the trial run's rules, the table is of one block and has the adjustment of job 90 by 7, marked for rule 1
-module _
-    (policy table : List ℕ) (passes : policyFault policy ≡ none) (good : tableFault policy table ≡ none) (says : policyOf policy ≡ trial)
-    (holds : recordsOf table ≡ kept 1 (adjust 7 (job 5 90)) ∷ []) (one : blocks table ≡ 1)
-  where
-    -- the request's number, of a request of no bytes
-    pub rows-request : decide policy table [] ≡ record { answer = refuse (refusal 21 0 0); state = table }
-    unfolding decideFault decide requestFault refusing _orElse_ unless
-    rows-request = rw (passes, good) refl
+-- any policy, table and request of which policy and table pass
+module _ (policy table request : List ℕ) (passes : policyFault policy ≡ none) (good : tableFault policy table ≡ none) where
+  -- what the judge finds, asked with the policy's rules, 15 places a block and the table's records
+  abbrev fault : Option Refusal
+  fault = judgeFault (policyOf policy) (15 * blocks table) (recordsOf table) request
 
-    -- then the judge's: 31, to 8, who may not check in role 1
-    pub rows-judge : decide policy table (request 8 1 2 1 (job 5 90)) ≡ record { answer = refuse (refusal 31 0 0); state = table }
-    unfolding opened blankLevel goodContext goodRequest requestFault decideFault decide
-    rows-judge = rw (passes, good, says) refl
+  abbrev judged : Outcome (List Record)
+  judged = judge (policyOf policy) (15 * blocks table) (recordsOf table) request
 
-    -- a grant: 8 checks job 90. The answer is the judgement's, and the bytes are the image of its records, with the policy's stamp and as
-    -- many blocks as before
-    pub grant-in-bytes :
-        decide policy table (check 8 (job 5 90))
-        ≡ record {
-          answer = grant 1 0 2;
-          state = tableImage (stamp policy) 1 (kept 1 (adjust 7 (job 5 90)) ∷ kept 1 (check 8 (job 5 90)) ∷ []);
-        }
-    unfolding opened blankLevel goodContext goodRequest requestFault decideFault decide
-    grant-in-bytes = rw (passes, good, says, holds, one) refl
+  -- the request's numbers go before the judge's
+  pub rows-request : (r : Refusal) → requestFault request ≡ some r → decide policy table request ≡ record { answer = refuse r; state = table }
+  unfolding decideFault decide refusing _orElse_
+  rows-request r q = rw (passes, good, q) refl
+
+  -- the judge's come last; the table's bytes stay
+  pub rows-judge :
+      requestFault request ≡ none → (r : Refusal) → fault ≡ some r → decide policy table request ≡ record { answer = refuse r; state = table }
+  unfolding decideFault decide refusing _orElse_
+  rows-judge q r f = rw (passes, good, q, f) refl
+
+  -- a grant's answer is the judge's, and the bytes are the image of its records, with the policy's stamp and as many blocks as before
+  pub grant-in-bytes :
+      requestFault request ≡ none → fault ≡ none → (a : Answer) (rs : List Record) → judged ≡ record { answer = a; state = rs }
+      → decide policy table request ≡ record { answer = a; state = tableImage (stamp policy) (blocks table) rs }
+  unfolding decideFault decide refusing _orElse_
+  grant-in-bytes q f a rs j = rw (passes, good, q, f, j) refl
