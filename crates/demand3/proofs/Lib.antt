@@ -7,4 +7,5 @@ pub mod GoodRecords
 pub mod Demand3
 pub mod Consequences
 pub mod Adequacy
+pub mod Fifteen
 pub mod Sample

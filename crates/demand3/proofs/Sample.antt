@@ -21,8 +21,8 @@ use Rattle.judge.specs.Decide.{decide}
 use Rattle.judge.specs.Sample.{samplePolicy, sampleRequests, sampleAnswers}
 use Rattle.register.specs.Register.{registerStep}
 use Rattle.register.specs.Demand3.{answers, Demand3}
-use Rattle.register.proofs.Sample.{fifteen}
 use Rattle.demand3.proofs.Demand3.{demand-3}
+use Rattle.demand3.proofs.Fifteen.{fifteen}
 
 pub record Session : Type 0 where
   pub policy : checkPolicy samplePolicy ≡ accept 2

@@ -2,6 +2,7 @@
 -- one of this crate's must-fail edits. Each definition is altered by an edit, or named in the text that one alters, save these:
 -- - refusalOf, faultOf (Code): what a value of the code stands for. No example computes with such a value; the contracts of the checks above use them;
 -- - some sizes and places of Layout, and capacity: tried one by one, an example breaks if any of them is one more (contextBytes: one less);
+-- - blankLevel of a request: tried, an example breaks if a level half blank passes for blank;
 -- - what only puts together definitions that edits do alter: accepting, sealed, checkPolicy, permissionsAt, levelAt, exclusionAt, isSet, marked,
 --   recordBytesAt, recordsOf, recordImage, blockImage, freshTable, and the records by their place (Place). Examples compute with each of them.
 -- Assumes nothing.
@@ -11,12 +12,14 @@ use mathlib.Core.Bool.{Bool, true, false}
 use mathlib.Core.List.{List, [], _∷_, _++_, map, flatten}
 use mathlib.Core.Option.{Option, none, some}
 use lib.ListN.{length, getD, take, replicate}
+use lib.Dec.{eqb}
 use Rattle.words.specs.Lists.{allBelow, anyBelow, sumBelow, tab, sameList}
 use Rattle.words.specs.First.{_orElse_, unless, first}
 use Rattle.words.specs.Bytes.{bytes2, bytes4, zeros, part, zeroFrom, bit}
-use Rattle.words.specs.Sums.{sums, addWords, addWord, words}
-use Rattle.format.specs.Answer.{Refusal, refusal, Answer, accept, refuse, accepting, refusing}
-use Rattle.format.specs.Block.{kind, number, total, goodLength, checkOf, goodCheck, sumBytes, sealed}
+use Rattle.words.specs.Sums.{Sums, sums, addWords, addWord, words}
+use Rattle.format.specs.Answer.{Refusal, refusal, accept, refuse, accepting, refusing}
+use Rattle.format.specs.Layout.{permissionKind}
+use Rattle.format.specs.Block.{blocks, block, kind, number, total, goodLength, checkOf, goodCheck, sumBytes, sealed}
 use Rattle.format.specs.Request.{Request, user, roles as activeRoles, operation, target, hasRole, contextOf, levelType, levelValue, usedLevel}
 use Rattle.format.specs.Request.{blankLevel, depthOf, goodContext, goodRequest, requestFault}
 use Rattle.format.specs.Rule.{Rule, Level, Exclusion, Privilege, Step, ruleAt, goodMark, goodLevel, blankLevel as blankRuleLevel, goodStep}
@@ -370,17 +373,12 @@ pub rule-other-bytes :
 unfolding opened
 rule-other-bytes = refl
 
--- "5: an exclusion", the first bad one from 1: "m = 1 gives 5"; the second and third of three; "one past the number that is not zero", the last byte of
--- the second and of the eighth; none
+-- "5: an exclusion", the first bad one from 1: the second and third of three have m = 1 ("m = 1 gives 5"); "one past the number that is not zero", the last
+-- byte of the eighth
 pub rule-exclusions-in-turn :
     map (ruleFault 7)
-    (ruleBytes 7 9 (0 ∷ 1 ∷ []) (pair 1)
-    ∷ ruleBytes 7 9 (0 ∷ 3 ∷ []) (pair 2 ++ pair 1 ++ pair 1)
-    ∷ ruleBytes 7 9 (0 ∷ 1 ∷ []) (pair 2 ++ zeros 35 ++ (1 ∷ []))
-    ∷ ruleBytes 7 9 (0 ∷ 1 ∷ []) (pair 2 ++ zeros 251 ++ (1 ∷ []))
-    ∷ ruleBytes 7 9 (0 ∷ 1 ∷ []) (pair 2)
-    ∷ [])
-    ≡ some (refusal 5 7 1) ∷ some (refusal 5 7 2) ∷ some (refusal 5 7 2) ∷ some (refusal 5 7 8) ∷ none ∷ []
+    (ruleBytes 7 9 (0 ∷ 3 ∷ []) (pair 2 ++ pair 1 ++ pair 1) ∷ ruleBytes 7 9 (0 ∷ 1 ∷ []) (pair 2 ++ zeros 251 ++ (1 ∷ [])) ∷ [])
+    ≡ some (refusal 5 7 2) ∷ some (refusal 5 7 8) ∷ []
 unfolding opened
 rule-exclusions-in-turn = refl
 
@@ -419,10 +417,6 @@ whole b = sealed (body b)
 abbrev unsealed : List ℕ → List ℕ
 unsealed b = body b ++ zeros 8
 
--- a rule of no levels and no steps
-abbrev ruleBlock : ℕ → ℕ → List ℕ
-ruleBlock k n = ruleBytes k n (0 ∷ 1 ∷ []) (pair 2)
-
 -- "The block stores a, then b": both are right, a alone is, b alone is, they are turned round
 pub checks :
     map (λ z. goodCheck (zeros 504 ++ z))
@@ -431,27 +425,22 @@ pub checks :
 unfolding opened
 checks = refl
 
--- "1: length not 512 times 1 to 64", "11: length not 512 times 1 to 128": no block, less than one, one and a byte, one too many
+-- "1: length not 512 times 1 to 64", "11: length not 512 times 1 to 128", whatever the bytes (`s n` are any n): no block, less than one, one and a byte, one
+-- too many; the most that pass
 pub lengths :
-    (map policyFault ([] ∷ zeros 511 ∷ zeros 513 ∷ zeros 33280 ∷ []) ∷ map tableLengthFault ([] ∷ zeros 511 ∷ zeros 513 ∷ zeros 66048 ∷ []) ∷ [])
-    ≡ replicate 4 (some (refusal 1 0 0)) ∷ replicate 4 (some (refusal 11 0 0)) ∷ []
-unfolding opened
-lengths = refl
-
--- "each block in turn", "numbers within a block upwards": a wrong check in a block with the wrong kind, number and total; a good block, then one with a
--- wrong check; one with a wrong number, then one with a wrong check. "3: kind, number, total": a table's block, the wrong number, the wrong total
-pub policies-in-turn :
-    map policyFault
-    (unsealed (head 9 9 9)
-    ∷ (whole (ruleBlock 0 2) ++ unsealed (permissionBytes 1 2 0 []))
-    ∷ (whole (ruleBlock 7 2) ++ unsealed (permissionBytes 1 2 0 []))
-    ∷ whole (head 2 0 1)
-    ∷ whole (ruleBlock 1 1)
-    ∷ whole (ruleBlock 0 2)
+    (s : ℕ → List ℕ) → ((n : ℕ) → length (s n) ≡ n)
+    → (map (λ n. policyFault (s n)) (0 ∷ 511 ∷ 513 ∷ 33280 ∷ [])
+    ∷ map (λ n. tableLengthFault (s n)) (0 ∷ 511 ∷ 513 ∷ 66048 ∷ 65536 ∷ [])
     ∷ [])
-    ≡ some (refusal 2 0 0) ∷ some (refusal 2 1 0) ∷ replicate 4 (some (refusal 3 0 0))
+    ≡ replicate 4 (some (refusal 1 0 0)) ∷ (replicate 4 (some (refusal 11 0 0)) ++ (none ∷ [])) ∷ []
+unfolding policyFault tableLengthFault goodLength unless _orElse_
+lengths s h = rw (h 0, h 511, h 513, h 33280, h 66048, h 65536) refl
+
+-- "3: kind, number, total": a good header; a table's block, the wrong number, the wrong total
+pub policies-header :
+    map (λ b. goodPolicyHeader (unsealed b) 0) (head 1 0 1 ∷ head 2 0 1 ∷ head 1 1 1 ∷ head 1 0 2 ∷ []) ≡ true ∷ false ∷ false ∷ false ∷ []
 unfolding opened
-policies-in-turn = refl
+policies-header = refl
 
 -- "rule after permission": block 3 after permission blocks 1 and 2; blocks 0 to 2 are well
 pub policies-rule-after-permission :
@@ -460,18 +449,42 @@ pub policies-rule-after-permission :
 unfolding opened
 policies-rule-after-permission = refl
 
--- "or rule 33", which would be block 32
-pub policies-rule-33 : map (goodPolicyHeader (flatten (tab (λ k. unsealed (head 1 k 33)) 0 33))) (31 ∷ 32 ∷ []) ≡ true ∷ false ∷ []
-unfolding opened
-policies-rule-33 = refl
+-- "or rule 33", which would be block 32: in any image of 33 blocks, block 31 behind rules may be a rule, block 32 may not
+module _ (s : List ℕ) (n : blocks s ≡ 33) where
+  pub policies-rule-32 :
+      number (block s 31) ≡ 31 → total (block s 31) ≡ 33 → kind (block s 31) ≡ 1
+      → anyBelow 31 (λ j. eqb (kind (block s j)) permissionKind) ≡ false
+      → goodPolicyHeader s 31 ≡ true
+  unfolding goodPolicyHeader
+  policies-rule-32 i t k a = cc
 
--- "Acceptance returns a policy's rules": of a permission block with no entry; of a rule alone; of a rule and a permission block
-pub policies-good :
-    map checkPolicy
-    (whole (permissionBytes 0 1 0 []) ∷ whole (ruleBlock 0 1) ∷ (whole (ruleBlock 0 2) ++ whole (permissionBytes 1 2 1 (entry 1 2 3))) ∷ [])
-    ≡ accept 0 ∷ accept 1 ∷ accept 1 ∷ []
+  pub policies-rule-33 : number (block s 32) ≡ 32 → total (block s 32) ≡ 33 → kind (block s 32) ≡ 1 → goodPolicyHeader s 32 ≡ false
+  unfolding goodPolicyHeader
+  policies-rule-33 i t k = cc
+
+-- "numbers within a block upwards": a wrong check in a block with the wrong kind, number and total; a wrong number of a rule of depth 5
+pub policies-numbers-upwards :
+    map policyFault (unsealed (head 9 9 9) ∷ whole (ruleBytes 7 1 (5 ∷ 1 ∷ []) (pair 2)) ∷ []) ≡ some (refusal 2 0 0) ∷ some (refusal 3 0 0) ∷ []
 unfolding opened
-policies-good = refl
+policies-numbers-upwards = refl
+
+-- "each block in turn", in any image of two: the first block's fault, whatever the second is; else the second's; else none
+module _ (s : List ℕ) (n : length s ≡ 1024) where
+  pub policies-in-turn :
+      ((r : Refusal) → policyBlockFault s 0 ≡ some r → policyFault s ≡ some r)
+      × (policyBlockFault s 0 ≡ none → ((r : Refusal) → policyBlockFault s 1 ≡ some r → policyFault s ≡ some r) × (policyBlockFault s 1 ≡ none → policyFault s ≡ none))
+  unfolding policyFault goodLength unless _orElse_ first
+  policies-in-turn = ((λ r a. rw (n, a) refl), λ a. ((λ r b. rw (n, a, b) refl), λ b. rw (n, a, b) refl))
+
+-- a policy of one rule and one permission: depot (type 1) each, roles m 2 of 1, 2; role 1 may do 2 on 3
+abbrev depots : List ℕ
+depots =
+    whole (ruleBytes 0 2 (1 ∷ 1 ∷ 0 ∷ 0 ∷ 0 ∷ 0 ∷ 0 ∷ 0 ∷ 1 ∷ 0 ∷ 3 ∷ []) (pair 2)) ++ whole (permissionBytes 1 2 1 (entry 1 2 3))
+
+-- it passes its check, computed once: a rule block and a permission block, whole
+pub depots-pass : policyFault depots ≡ none
+unfolding opened
+depots-pass = refl
 
 -- what a policy says: "Rule r (from 1) is block r - 1", here with 1 and 2 exclusions, then two permission blocks of one entry each
 pub policies-read :
@@ -483,16 +496,13 @@ policies-read = refl
 
 -- ---- tables
 
--- a policy of one rule: depot (type 1) each; roles m to be said, of 1, 2
-abbrev depotsWith : ℕ → List ℕ
-depotsWith m = whole (ruleBytes 0 1 (1 ∷ 1 ∷ 0 ∷ 0 ∷ 0 ∷ 0 ∷ 0 ∷ 0 ∷ 1 ∷ 0 ∷ 3 ∷ []) (pair m))
+-- a table block: number, total, count, stamp, what stands from byte 24 on
+abbrev tableBytes : ℕ → ℕ → ℕ → Sums → List ℕ → List ℕ
+tableBytes k n c t rs = head 2 k n ++ bytes2 c ++ zeros 6 ++ sumBytes t ++ rs
 
-abbrev depots : List ℕ
-depots = depotsWith 2
-
--- a table block under it: number, total, count, what stands from byte 24 on
-abbrev tableBytes : ℕ → ℕ → ℕ → List ℕ → List ℕ
-tableBytes k n c rs = head 2 k n ++ bytes2 c ++ zeros 6 ++ sumBytes (stamp depots) ++ rs
+-- a stamp of a = 3, b = 4
+abbrev stamped : Sums
+stamped = record { a = 3; b = 4 }
 
 -- a record: a context and marks
 abbrev kept : List ℕ → ℕ → List ℕ
@@ -523,22 +533,20 @@ pub records-good :
 unfolding opened
 records-good = refl
 
--- "Acceptance returns .. a table's records": a full block
-pub tables-good : checkTable depots (whole (tableBytes 0 1 15 (good 15))) ≡ accept 15
-unfolding opened
-tables-good = refl
-
--- "13: kind, number, total, count, .. spare bytes": a permission block, a wrong number, a wrong total, 16 records, byte 10, a byte after the records
+-- "13: kind, number, total, count, .. spare bytes": good are 15 records; bad are a permission block, a wrong number, a wrong total, 16 records, byte 10,
+-- a byte after the records
 pub tables-header :
-    map (λ b. tableFault depots (whole b))
-    (head 3 0 1
-    ∷ tableBytes 1 1 0 []
-    ∷ tableBytes 0 2 0 []
-    ∷ tableBytes 0 1 16 (good 15)
-    ∷ (head 2 0 1 ++ bytes2 0 ++ (1 ∷ []) ++ zeros 5 ++ sumBytes (stamp depots))
-    ∷ tableBytes 0 1 1 (good 1 ++ (1 ∷ []))
+    map (map (λ b. goodTableHeader (unsealed b) 0))
+    ((tableBytes 0 1 15 stamped (good 15) ∷ [])
+    ∷ (head 3 0 1
+    ∷ tableBytes 1 1 0 stamped []
+    ∷ tableBytes 0 2 0 stamped []
+    ∷ tableBytes 0 1 16 stamped (good 15)
+    ∷ (head 2 0 1 ++ bytes2 0 ++ (1 ∷ []))
+    ∷ tableBytes 0 1 1 stamped (good 1 ++ (1 ∷ []))
     ∷ [])
-    ≡ replicate 6 (some (refusal 13 0 0))
+    ∷ [])
+    ≡ (true ∷ []) ∷ replicate 6 false ∷ []
 unfolding opened
 tables-header = refl
 
@@ -547,14 +555,14 @@ tables-header = refl
 pub tables-gap :
     (map (λ ns. map (gap (flatten (map (λ n. zeros 8 ++ bytes2 n ++ zeros 502) ns))) (0 ∷ 1 ∷ 2 ∷ 3 ∷ []))
     ((15 ∷ 15 ∷ 3 ∷ 0 ∷ []) ∷ (15 ∷ 0 ∷ 3 ∷ 0 ∷ []) ∷ (0 ∷ 15 ∷ 15 ∷ 0 ∷ []) ∷ [])
-    ++ (map (λ n. goodTableHeader (unsealed (tableBytes 0 2 n []) ++ unsealed (tableBytes 1 2 15 [])) 1) (15 ∷ 14 ∷ []) ∷ []))
+    ++ (map (λ n. goodTableHeader (unsealed (tableBytes 0 2 n stamped []) ++ unsealed (tableBytes 1 2 15 stamped [])) 1) (15 ∷ 14 ∷ []) ∷ []))
     ≡ (false ∷ false ∷ false ∷ false ∷ []) ∷ (false ∷ false ∷ true ∷ false ∷ []) ∷ (false ∷ true ∷ true ∷ false ∷ []) ∷ (true ∷ false ∷ []) ∷ []
 unfolding opened
 tables-gap = refl
 
 -- "16-23 the stamp, a then b": both are right; a alone is; b alone is; they are turned round
 pub stamps-good :
-    map (λ t. goodStamp (record { a = 3; b = 4 }) (zeros 16 ++ t))
+    map (λ t. goodStamp stamped (zeros 16 ++ t))
     ((bytes4 3 ++ bytes4 4) ∷ (bytes4 3 ++ bytes4 5) ∷ (bytes4 5 ++ bytes4 4) ∷ (bytes4 4 ++ bytes4 3) ∷ [])
     ≡ true ∷ false ∷ false ∷ false ∷ []
 unfolding opened
@@ -565,46 +573,68 @@ pub stamp-of-all-words : stamp (bytes4 1 ++ zeros 500 ++ bytes4 2 ++ bytes4 3) �
 unfolding opened
 stamp-of-all-words = refl
 
--- "numbers within a block upwards", "the first bad .. record", "each block in turn". A full block whose second record is marked for a rule that does not
--- fit: with a wrong check, kind and stamp; with a wrong kind and stamp; with the stamp of a policy with another m; with none of these; and, its record
--- mended, before a block with a wrong check
-pub tables-in-turn :
-    (let bad = good 1 ++ kept (2 ∷ 5 ∷ []) 1 ++ good 13 in
-    tableFault (depotsWith 3) (unsealed (head 9 9 9 ++ zeros 16 ++ bad))
-    ∷ tableFault (depotsWith 3) (whole (head 9 0 1 ++ zeros 16 ++ bad))
-    ∷ tableFault (depotsWith 3) (whole (tableBytes 0 1 15 bad))
-    ∷ tableFault depots (whole (tableBytes 0 1 15 bad))
-    ∷ tableFault depots (whole (tableBytes 0 2 15 (good 15)) ++ unsealed (tableBytes 1 2 1 (good 1)))
-    ∷ [])
-    ≡ some (refusal 12 0 0) ∷ some (refusal 13 0 0) ∷ some (refusal 14 0 0) ∷ some (refusal 15 0 2) ∷ some (refusal 12 1 0) ∷ []
+-- "numbers within a block upwards", "the first bad .. record": a full block whose second and last records are marked for a rule that does not fit, with a
+-- wrong check, kind and stamp; with a wrong kind and stamp; with a wrong stamp; with none of these. Then a good block of 14
+pub tables-numbers-upwards :
+    (let bad = good 1 ++ kept (2 ∷ 5 ∷ []) 1 ++ good 12 ++ kept (2 ∷ 5 ∷ []) 1 in
+    map (λ s. tableBlockFault twoRules stamped s 0)
+    (unsealed (head 9 9 9 ++ bytes2 15 ++ zeros 14 ++ bad)
+    ∷ whole (head 9 0 1 ++ bytes2 15 ++ zeros 14 ++ bad)
+    ∷ whole (tableBytes 0 1 15 (record { a = 3; b = 5 }) bad)
+    ∷ whole (tableBytes 0 1 15 stamped bad)
+    ∷ whole (tableBytes 0 1 14 stamped (good 14))
+    ∷ []))
+    ≡ some (refusal 12 0 0) ∷ some (refusal 13 0 0) ∷ some (refusal 14 0 0) ∷ some (refusal 15 0 2) ∷ none ∷ []
 unfolding opened
-tables-in-turn = refl
+tables-numbers-upwards = refl
 
--- "Records fill the blocks from the front with no gap": 16 records in three blocks, their counts, and the records read back
+-- "each block in turn", in any image of two under a policy's rules and stamp: the first block's fault, whatever the second is; else the second's; else none
+module _ (policy s : List ℕ) (n : length s ≡ 1024) where
+  abbrev fault : ℕ → Option Refusal
+  fault k = tableBlockFault (policyOf policy) (stamp policy) s k
+
+  pub tables-in-turn :
+      ((r : Refusal) → fault 0 ≡ some r → tableFault policy s ≡ some r)
+      × (fault 0 ≡ none → ((r : Refusal) → fault 1 ≡ some r → tableFault policy s ≡ some r) × (fault 1 ≡ none → tableFault policy s ≡ none))
+  unfolding tableFault tableLengthFault goodLength unless _orElse_ first
+  tables-in-turn = ((λ r a. rw (n, a) refl), λ a. ((λ r b. rw (n, a, b) refl), λ b. rw (n, a, b) refl))
+
+-- "Records fill the blocks from the front with no gap": 16 records in three blocks, each with its count, its number and the
+-- total, and the records read back
 pub tables-filled :
-    (let s = tableImage (stamp depots) 3 (replicate 16 (record { request = asked (1 ∷ 5 ∷ []); marks = 1 })) in
-    (map (λ k. count (part s (512 * k) 512)) (0 ∷ 1 ∷ 2 ∷ []) ∷ map (λ r. r .marks) (recordsOf s) ∷ part s 536 32 ∷ []))
-    ≡ (15 ∷ 1 ∷ 0 ∷ []) ∷ replicate 16 1 ∷ good 1 ∷ []
+    (let s = tableImage stamped 3 (replicate 16 (record { request = asked (1 ∷ 5 ∷ []); marks = 1 })) in
+    map (λ f. map (λ k. f (block s k)) (0 ∷ 1 ∷ 2 ∷ [])) (count ∷ number ∷ total ∷ []) ++ (map (λ r. r .marks) (recordsOf s) ∷ part s 536 32 ∷ []))
+    ≡ (15 ∷ 1 ∷ 0 ∷ []) ∷ (0 ∷ 1 ∷ 2 ∷ []) ∷ (3 ∷ 3 ∷ 3 ∷ []) ∷ replicate 16 1 ∷ good 1 ∷ []
 unfolding opened
 tables-filled = refl
 
 -- ---- the calls
 
+-- "Acceptance returns a policy's rules, a table's records", of any policy that passes and any table that passes under it
+pub policies-good : (policy : List ℕ) → policyFault policy ≡ none → ruleCount policy ≡ 3 → checkPolicy policy ≡ accept 3
+unfolding checkPolicy accepting
+policies-good policy p n = rw (p, n) refl
+
+pub tables-good :
+    (policy table : List ℕ) → policyFault policy ≡ none → tableFault policy table ≡ none → length (recordsOf table) ≡ 14
+    → checkTable policy table ≡ accept 14
+unfolding checkTable accepting _orElse_
+tables-good policy table p t n = rw (p, t, n) refl
+
 -- "check a table under a policy, make a fresh table in a lent buffer (1 to 6, then 11)": the policy's numbers before the table's
-pub calls-refused :
-    (checkTable [] [] ∷ makeTable [] (7 ∷ []) .answer ∷ makeTable depots (7 ∷ []) .answer ∷ [])
-    ≡ refuse (refusal 1 0 0) ∷ refuse (refusal 1 0 0) ∷ refuse (refusal 11 0 0) ∷ []
+pub calls-refused : (checkTable [] [] ∷ makeTable [] (7 ∷ []) .answer ∷ []) ≡ replicate 2 (refuse (refusal 1 0 0))
 unfolding opened
 calls-refused = refl
 
--- "a refusal alters nothing lent"
-pub buffer-stays : makeTable depots (7 ∷ []) .state ≡ 7 ∷ []
-unfolding opened
-buffer-stays = refl
+-- then the table's, under any policy that passes; "a refusal alters nothing lent"
+pub buffer-stays : (policy : List ℕ) → policyFault policy ≡ none → makeTable policy (7 ∷ []) ≡ record { answer = refuse (refusal 11 0 0); state = 7 ∷ [] }
+unfolding makeTable tableLengthFault goodLength unless _orElse_ refusing
+buffer-stays policy h = rw h refl
 
--- "a fresh table's places (15 times B)", "A fresh table has no record": two blocks, each with its number, the total, the policy's stamp and its check
+-- "a fresh table's places (15 times B)", "A fresh table has no record": a block with its number, the total, the policy's stamp and its check
 pub tables-fresh :
-    makeTable depots (zeros 1024)
-    ≡ record { answer = accept 30; state = whole (head 2 0 2 ++ zeros 8 ++ sumBytes (stamp depots)) ++ whole (head 2 1 2 ++ zeros 8 ++ sumBytes (stamp depots)) }
-unfolding opened
-tables-fresh = refl
+    (policy : List ℕ) → policyFault policy ≡ none → stamp policy ≡ stamped
+    → makeTable policy (zeros 512) ≡ record { answer = accept 15; state = whole (tableBytes 0 1 0 stamped []) }
+unfolding makeTable tableLengthFault goodLength unless _orElse_ refusing freshTable tableImage blockImage tab flatten recordImage sealed sumBytes sums words
+    addWords addWord
+tables-fresh policy h t = rw (h, t) refl

@@ -1,34 +1,32 @@
 -- Worked examples of the judge: the tally, the verdict of steps 1 to 3, the new table of steps 4 and 5, and decide on bytes. Each is broken by one of this
--- crate's must-fail edits. No edit alters the sample session (Sample): it is the paper's data, and its fifteen lines are proved in crate register. Nor
--- timesDone, permitted, isLast, recordOf, tableAfter: edits put something else in their place where they are used.
+-- crate's must-fail edits, save rows-policy, rows-request and rows-judge, whose neighbours are. No edit alters the sample session (Sample): it is the paper's
+-- data, and its fifteen lines are proved in crate demand3. Nor timesDone, permitted, isLast, recordOf, tableAfter: edits put something else in their place
+-- where they are used.
 -- Assumes nothing.
-use Prim.Native.Nat.{ℕ}
+use Prim.Native.Nat.{ℕ, _*_}
 use mathlib.Core.Path.{_≡_, refl}
-use mathlib.Core.Bool.{Bool, true, false}
-use mathlib.Core.List.{List, [], _∷_, _++_, map, flatten}
+use mathlib.Core.Bool.{true, false}
+use mathlib.Core.List.{List, [], _∷_, _++_, map}
 use mathlib.Core.Option.{Option, none, some}
 use lib.ListN.{length, getD, drop}
 use Rattle.words.specs.Lists.{keep, anyOf, allBelow, anyBelow, sumBelow, tab, sameList}
 use Rattle.words.specs.First.{_orElse_, unless, first}
-use Rattle.words.specs.Bytes.{bytes2, bytes4, zeros, zeroFrom, bit, bits}
-use Rattle.words.specs.Sums.{sums, addWords, addWord, words}
+use Rattle.words.specs.Bytes.{bytes2, bytes4, zeros, bit, bits}
 use Rattle.format.specs.Answer.{Refusal, refusal, Answer, grant, refuse, Outcome, refusing}
-use Rattle.format.specs.Block.{goodLength, checkOf, goodCheck, sumBytes, sealed}
-use Rattle.format.specs.Request.{Request, hasRole, usedLevel, blankLevel, depthOf, goodContext, goodRequest, requestFault}
-use Rattle.format.specs.Rule.{Rule, Level, Exclusion, Privilege, Step, ruleAt, goodMark, goodLevel, blankLevel as blankRuleLevel, goodStep, goodSteps}
-use Rattle.format.specs.Rule.{goodRule, goodRoles, goodPrivileges, goodExclusion, blankExclusion, goodRuleBytes, goodExclusionAt, ruleFault}
+use Rattle.format.specs.Block.{blocks, goodLength}
+use Rattle.format.specs.Request.{Request, hasRole, usedLevel, depthOf, requestFault}
+use Rattle.format.specs.Rule.{Rule, Level, Exclusion, Privilege, Step}
 use Rattle.format.specs.Fits.{fits, levelFits, place, placeValue, samePlace}
-use Rattle.format.specs.Policy.{Policy, Permission, goodPermission, goodPermissionBytes, permissionFault, goodPolicyHeader, policyBlockFault}
-use Rattle.format.specs.Policy.{policyFault, ruleCount, permissionsAt, policyOf, stamp}
-use Rattle.format.specs.Table.{Record, goodMarks, goodRecord, recordAt, gap, goodTableHeader, goodStamp, tableBlockFault, tableLengthFault, tableFault}
-use Rattle.format.specs.Table.{recordsOf, recordImage, blockImage, tableImage, freshTable}
+use Rattle.format.specs.Policy.{Policy, Permission}
+use Rattle.format.specs.Policy.{policyFault, policyOf, stamp}
+use Rattle.format.specs.Table.{Record, tableLengthFault, tableFault}
+use Rattle.format.specs.Table.{recordsOf, tableImage}
 use Rattle.judge.specs.Tally.{sameUser, does, countsFor, roleTally, timesListed, timesDone, repeats, privilegeTally, tally, reached, exclusionNumber}
 use Rattle.judge.specs.Tally.{counted}
 use Rattle.judge.specs.Verdict.{grants, permitted, isFirst, isLast, judges, failing, verdict}
 use Rattle.judge.specs.NewTable.{standsIn, openIn, pastIn, ends, gives, recordOf, cleared, sweep, newTable, grantOf, tableAfter, judgeFault}
 use Rattle.judge.specs.NewTable.{judge}
 use Rattle.judge.specs.Decide.{decideFault, decide}
-use Rattle.judge.specs.Sample.{samplePolicy}
 
 -- what these examples compute with
 opened : Unit {0}
@@ -324,34 +322,40 @@ refusals-keep-the-table = refl
 
 -- ---- decide, on bytes
 
--- what these compute with besides
-openedBytes : Unit {0}
-unfolding flatten zeroFrom sums addWords addWord words goodLength checkOf goodCheck sumBytes sealed blankLevel goodContext goodRequest requestFault ruleAt
-    goodMark goodLevel blankRuleLevel goodStep goodSteps goodRule goodRoles goodPrivileges goodExclusion blankExclusion goodRuleBytes goodExclusionAt
-    ruleFault goodPermission goodPermissionBytes permissionFault goodPolicyHeader policyBlockFault policyFault ruleCount permissionsAt policyOf stamp
-    goodMarks goodRecord recordAt gap goodTableHeader goodStamp tableBlockFault tableLengthFault tableFault recordsOf recordImage blockImage tableImage
-    freshTable samplePolicy decideFault decide
-openedBytes = tt
+-- no policy, no request, and a table of two bytes: 1, and "a refusal alters nothing lent"
+pub rows-policy : decide [] (7 ∷ 8 ∷ []) [] ≡ record { answer = refuse (refusal 1 0 0); state = 7 ∷ 8 ∷ [] }
+unfolding decideFault decide policyFault goodLength refusing _orElse_ unless
+rows-policy = refl
 
--- "Rows are tested from top to bottom": of three empty inputs the policy gets its number, then the table, then the request; then the judge's 31, to 8, who
--- may not check in role 1. "a refusal alters nothing lent": a table of two bytes stays as it is
-pub rows-in-order :
-    (decide [] (7 ∷ 8 ∷ []) []
-    ∷ decide samplePolicy (7 ∷ 8 ∷ []) []
-    ∷ decide samplePolicy (freshTable samplePolicy 1) []
-    ∷ decide samplePolicy (freshTable samplePolicy 1) (request 8 1 2 1 (job 5 90))
-    ∷ [])
-    ≡ record { answer = refuse (refusal 1 0 0); state = 7 ∷ 8 ∷ [] }
-    ∷ record { answer = refuse (refusal 11 0 0); state = 7 ∷ 8 ∷ [] }
-    ∷ record { answer = refuse (refusal 21 0 0); state = freshTable samplePolicy 1 }
-    ∷ record { answer = refuse (refusal 31 0 0); state = freshTable samplePolicy 1 }
-    ∷ []
-unfolding opened openedBytes
-rows-in-order = refl
+-- "Rows are tested from top to bottom", under any policy that passes: the table of two bytes gets its number before the request
+pub rows-table :
+    (policy : List ℕ) → policyFault policy ≡ none → decide policy (7 ∷ 8 ∷ []) [] ≡ record { answer = refuse (refusal 11 0 0); state = 7 ∷ 8 ∷ [] }
+unfolding decideFault decide tableFault tableLengthFault goodLength refusing _orElse_ unless
+rows-table policy passes = rw passes refl
 
--- a grant in bytes, the first of the sample session: "1 grant 1 0 1", and the table of two blocks then has the record, marked for rule 1, in its first
-pub grant-in-bytes :
-    decide samplePolicy (freshTable samplePolicy 2) (adjust 7 (job 5 90))
-    ≡ record { answer = grant 1 0 1; state = tableImage (stamp samplePolicy) 2 (kept 1 (adjust 7 (job 5 90)) ∷ []) }
-unfolding opened openedBytes
-grant-in-bytes = refl
+-- any policy, table and request of which policy and table pass
+module _ (policy table request : List ℕ) (passes : policyFault policy ≡ none) (good : tableFault policy table ≡ none) where
+  -- what the judge finds, asked with the policy's rules, 15 places a block and the table's records
+  abbrev fault : Option Refusal
+  fault = judgeFault (policyOf policy) (15 * blocks table) (recordsOf table) request
+
+  abbrev judged : Outcome (List Record)
+  judged = judge (policyOf policy) (15 * blocks table) (recordsOf table) request
+
+  -- the request's numbers go before the judge's
+  pub rows-request : (r : Refusal) → requestFault request ≡ some r → decide policy table request ≡ record { answer = refuse r; state = table }
+  unfolding decideFault decide refusing _orElse_
+  rows-request r q = rw (passes, good, q) refl
+
+  -- the judge's come last; the table's bytes stay
+  pub rows-judge :
+      requestFault request ≡ none → (r : Refusal) → fault ≡ some r → decide policy table request ≡ record { answer = refuse r; state = table }
+  unfolding decideFault decide refusing _orElse_
+  rows-judge q r f = rw (passes, good, q, f) refl
+
+  -- a grant's answer is the judge's, and the bytes are the image of its records, with the policy's stamp and as many blocks as before
+  pub grant-in-bytes :
+      requestFault request ≡ none → fault ≡ none → (a : Answer) (rs : List Record) → judged ≡ record { answer = a; state = rs }
+      → decide policy table request ≡ record { answer = a; state = tableImage (stamp policy) (blocks table) rs }
+  unfolding decideFault decide refusing _orElse_
+  grant-in-bytes q f a rs j = rw (passes, good, q, f, j) refl

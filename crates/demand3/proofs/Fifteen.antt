@@ -1,6 +1,6 @@
 -- The sample session of document 01 over the full register, computed: from no grant, with one block, the fifteen requests in bytes get the paper's
--- fifteen answers, and the image has records of the five that are held. With the judge's answers beside them, as the paper's "one fact about judge and register",
--- it is crates/demand3/proofs/Sample.antt.
+-- fifteen answers, and the image has records of the five that are held. It stands here and not beside the register's other examples because it is dear, and
+-- each must-fail edit of crate register would compute it again.
 -- Assumes nothing.
 use Prim.Native.Nat.{ℕ}
 use mathlib.Core.Path.{_≡_, refl}
