@@ -3,8 +3,8 @@
 -- - refusalOf, faultOf (Code): what a value of the code stands for. No example computes with such a value; the contracts of the checks above use them;
 -- - some sizes and places of Layout, and capacity: tried one by one, an example breaks if any of them is one more (contextBytes: one less);
 -- - blankLevel of a request: tried, an example breaks if a level half blank passes for blank;
--- - what only puts together definitions that edits do alter: accepting, sealed, checkPolicy, permissionsAt, levelAt, exclusionAt, isSet, marked,
---   recordBytesAt, recordsOf, recordImage, blockImage, freshTable, and the records by their place (Place). Examples compute with each of them.
+-- - what only puts together definitions that edits do alter: sealed, permissionsAt, levelAt, exclusionAt, isSet, marked, recordBytesAt, recordImage,
+--   blockImage, freshTable, and the records by their place (Place). Examples compute with each of them.
 -- Assumes nothing.
 use Prim.Native.Nat.{ℕ, _+_, _-_, _*_}
 use mathlib.Core.Path.{_≡_, refl}
@@ -611,15 +611,14 @@ tables-filled = refl
 -- ---- the calls
 
 -- "Acceptance returns a policy's rules, a table's records", of any policy that passes and any table that passes under it
-pub policies-good : (policy : List ℕ) → policyFault policy ≡ none → ruleCount policy ≡ 3 → checkPolicy policy ≡ accept 3
+pub policies-good : (policy : List ℕ) → policyFault policy ≡ none → checkPolicy policy ≡ accept (ruleCount policy)
 unfolding checkPolicy accepting
-policies-good policy p n = rw (p, n) refl
+policies-good policy p = rw p refl
 
 pub tables-good :
-    (policy table : List ℕ) → policyFault policy ≡ none → tableFault policy table ≡ none → length (recordsOf table) ≡ 14
-    → checkTable policy table ≡ accept 14
+    (policy table : List ℕ) → policyFault policy ≡ none → tableFault policy table ≡ none → checkTable policy table ≡ accept (length (recordsOf table))
 unfolding checkTable accepting _orElse_
-tables-good policy table p t n = rw (p, t, n) refl
+tables-good policy table p t = rw (p, t) refl
 
 -- "check a table under a policy, make a fresh table in a lent buffer (1 to 6, then 11)": the policy's numbers before the table's
 pub calls-refused : (checkTable [] [] ∷ makeTable [] (7 ∷ []) .answer ∷ []) ≡ replicate 2 (refuse (refusal 1 0 0))
