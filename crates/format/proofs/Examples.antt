@@ -1,10 +1,10 @@
 -- Worked examples of the formats: what fits a rule, what is a good request, rule, policy and table, and the number that a bad one gets. Each is broken by
 -- one of this crate's must-fail edits. Each definition is altered by an edit, or named in the text that one alters, save these:
 -- - refusalOf, faultOf (Code): what a value of the code stands for. No example computes with such a value; the contracts of the checks above use them;
--- - some sizes and places of Layout, and capacity: tried one by one, an example breaks if any of them is one more (contextBytes: one less);
+-- - some sizes and offsets of Layout, and capacity: tried one by one, an example breaks if any of them is one more (contextBytes: one less);
 -- - blankLevel of a request: tried, an example breaks if a level half blank passes for blank;
 -- - what only puts together definitions that edits do alter: sealed, permissionsAt, levelAt, exclusionAt, isSet, marked, recordBytesAt, recordImage,
---   blockImage, freshTable, and the records by their place (Place). Examples compute with each of them.
+--   blockImage, freshTable, and the records by where they start (Records). Examples compute with each of them.
 -- Assumes nothing.
 use Prim.Native.Nat.{ℕ, _+_, _-_, _*_}
 use mathlib.Core.Path.{_≡_, refl}

@@ -1,6 +1,5 @@
 -- Worked examples of the judge: the tally, the verdict of steps 1 to 3, the new table of steps 4 and 5, and decide on bytes. Each is broken by one of this
--- crate's must-fail edits, save rows-policy, rows-request and rows-judge, whose neighbours are. No edit alters the sample session (Sample): it is the paper's
--- data, and its fifteen lines are proved in crate demand3. Nor timesDone, permitted, isLast, recordOf, tableAfter: edits put something else in their place
+-- crate's must-fail edits. No edit alters the sample session (Sample): it is the paper's data, and its fifteen lines are proved in crate demand3. Nor timesDone, permitted, isLast, recordOf, tableAfter: edits put something else in their place
 -- where they are used.
 -- Assumes nothing.
 use Prim.Native.Nat.{ℕ, _*_}

@@ -1,5 +1,5 @@
 -- Worked examples of the full register: the runs, the numbers of a grant, the image, and of demand 3: who has reached the forbidden number, and when
--- that is asked.
+-- that is asked. Each is broken by one of this crate's must-fail edits.
 -- Assumes nothing.
 use Prim.Native.Nat.{ℕ, zero, suc}
 use mathlib.Core.Path.{_≡_, refl, sym}
