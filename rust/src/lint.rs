@@ -76,8 +76,8 @@ pub enum Warning {
     },
     /// The rule has levels; no other rule with levels has the same types in the same order, as far
     /// as the shorter of the two goes; and another rule, the first such one is named, has one of its
-    /// types at another level. A context fits a rule only if its levels come in the rule's order:
-    /// in another order it fits no rule of that order, and is granted unwatched.
+    /// types at another level. A context fits a rule only if its levels come in the rule's order, so
+    /// that one with the other rule's order is not watched by this rule.
     LevelOrder {
         /// The rule.
         rule: u32,
