@@ -76,8 +76,8 @@ pub enum Warning {
     },
     /// The rule has levels; no other rule with levels has the same types in the same order, as far
     /// as the shorter of the two goes; and another rule, the first such one is named, has one of its
-    /// types at another level. A context fits a rule only if its levels come in the rule's order:
-    /// in another order it fits no rule of that order, and is granted unwatched.
+    /// types at another level. A context fits a rule only if its levels come in the rule's order, so
+    /// that one with the other rule's order is not watched by this rule.
     LevelOrder {
         /// The rule.
         rule: u32,
@@ -86,53 +86,74 @@ pub enum Warning {
     },
 }
 
+impl Warning {
+    /// The rule that it is about.
+    pub fn rule(&self) -> u32 {
+        match *self {
+            Warning::FirstStepNotPermitted { rule, .. }
+            | Warning::LastStepNotPermitted { rule, .. }
+            | Warning::NoLastStep { rule }
+            | Warning::OutOfReach { rule, .. }
+            | Warning::RoleWithoutPermission { rule, .. }
+            | Warning::LevelOrder { rule, .. } => rule,
+        }
+    }
+
+    /// The exclusion that it is about, if it is about one.
+    pub fn exclusion(&self) -> Option<u32> {
+        match *self {
+            Warning::OutOfReach { exclusion, .. }
+            | Warning::RoleWithoutPermission { exclusion, .. } => Some(exclusion),
+            _ => None,
+        }
+    }
+}
+
 impl fmt::Display for Warning {
     fn fmt(&self, f: &mut fmt::Formatter) -> fmt::Result {
-        use Warning::*;
-        match self {
-            FirstStepNotPermitted { rule, step } => {
-                let what = "nobody is permitted its first step";
-                pad(
+        let (rule, what) = (self.rule(), What(self));
+        match self.exclusion() {
+            Some(exclusion) => pad(
+                f,
+                format_args!("rule {rule}, exclusion {exclusion}: {what}"),
+            ),
+            None => pad(f, format_args!("rule {rule}: {what}")),
+        }
+    }
+}
+
+struct What<'a>(&'a Warning);
+
+impl fmt::Display for What<'_> {
+    fn fmt(&self, f: &mut fmt::Formatter) -> fmt::Result {
+        match self.0 {
+            Warning::FirstStepNotPermitted { step, .. } => write!(
+                f,
+                "nobody is permitted its first step {step}: it stays silent"
+            ),
+            Warning::LastStepNotPermitted { step, .. } => {
+                write!(f, "nobody is permitted its last step {step}: no run ends")
+            }
+            Warning::NoLastStep { .. } => {
+                write!(f, "it has no last step: what it records stays for good")
+            }
+            Warning::OutOfReach { most, m, .. } => {
+                write!(
                     f,
-                    format_args!("rule {rule}: {what} {step}: it stays silent"),
+                    "nobody can reach {m}: of what is permitted {most} counts"
                 )
             }
-            LastStepNotPermitted { rule, step } => {
-                let what = "nobody is permitted its last step";
-                pad(f, format_args!("rule {rule}: {what} {step}: no run ends"))
-            }
-            NoLastStep { rule } => {
-                let what = "it has no last step: what it records stays for good";
-                pad(f, format_args!("rule {rule}: {what}"))
-            }
-            OutOfReach {
-                rule,
-                exclusion,
-                most,
-                m,
-            } => {
-                let what = format_args!("nobody can reach {m}: of what is permitted {most} counts");
-                pad(
+            Warning::RoleWithoutPermission { role, .. } => {
+                write!(
                     f,
-                    format_args!("rule {rule}, exclusion {exclusion}: {what}"),
+                    "role {role} has no permission, and counts only beside another one"
                 )
             }
-            RoleWithoutPermission {
-                rule,
-                exclusion,
-                role,
-            } => {
-                let what = format_args!("role {role} has no permission");
-                pad(
-                    f,
-                    format_args!("rule {rule}, exclusion {exclusion}: {what}"),
-                )
-            }
-            LevelOrder { rule, other } => {
-                let what = "no other rule has its levels in this order, but";
-                let other = format_args!("rule {other} has one of their types at another level");
-                pad(f, format_args!("rule {rule}: {what} {other}"))
-            }
+            Warning::LevelOrder { other, .. } => write!(
+                f,
+                "no other rule has its levels in this order, \
+                 but rule {other} has one of their types at another level"
+            ),
         }
     }
 }

@@ -27,6 +27,14 @@
 //! assert_eq!(raw::decide(&policy, &mut table, &[1; 29]), Err(Refusal::RequestLength));
 //! # Ok::<(), hastovimen::BuildError>(())
 //! ```
+//!
+//! An acceptance is no grant:
+//!
+//! ```compile_fail
+//! use hastovimen::{raw, Grant, Refusal};
+//!
+//! let granted: Result<Grant, Refusal> = raw::check_policy(&[]);
+//! ```
 
 #![allow(unsafe_code)]
 

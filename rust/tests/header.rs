@@ -91,7 +91,11 @@ fn numbers_and_sizes() {
     }
     for (name, value) in &header {
         let same = here.remove(name.as_str());
-        assert_eq!(same.as_ref(), Some(value), "{name} is no constant in Rust");
+        assert_eq!(
+            same.as_ref(),
+            Some(value),
+            "{name} in Rust, and in the header"
+        );
     }
     assert!(here.is_empty(), "the header lacks {here:?}");
 }

@@ -220,6 +220,11 @@ fn words() {
     for warning in warnings {
         let text = warning.to_string();
         assert!(text.starts_with("rule 1"), "{text}");
+        assert_eq!(warning.rule(), 1);
+        assert_eq!(
+            warning.exclusion().is_some(),
+            text.contains("exclusion 2: ")
+        );
         assert_eq!(format!("{warning:>120}"), format!("{text:>120}"));
     }
 }

@@ -124,14 +124,15 @@ fn on_small_stack(call: Call, policy: &[u8], table: &[u8], request: &[u8]) -> Re
     lent.reply.expect("the call came back")
 }
 
-/// A policy of 32 rules of 8 exclusions, and a full table of 128 blocks, all of it one user's and
-/// marked for all rules: a decision then takes the most room that it can.
-#[test]
-fn every_call_on_a_small_stack() {
-    let privilege = |operation| Privilege {
+fn privilege(operation: u16) -> Privilege {
+    Privilege {
         operation,
         target: 1,
-    };
+    }
+}
+
+/// 32 rules of 8 exclusions; what is permitted are operations 1 to 3, of which 2 ends every run.
+fn largest_policy() -> Vec<u8> {
     let exclusion = |x: u16| Exclusion {
         m: 2,
         members: if x.is_multiple_of(2) {
@@ -146,22 +147,30 @@ fn every_call_on_a_small_stack() {
         last: Some(privilege(2)),
         exclusions: (0..8).map(exclusion).collect(),
     };
-    let permissions = (1..=3)
-        .map(|operation| Permission {
-            role: 1,
-            privilege: privilege(operation),
-        })
-        .collect();
-    let policy = write_policy(&Policy {
+    let permission = |operation| Permission {
+        role: 1,
+        privilege: privilege(operation),
+    };
+    write_policy(&Policy {
         rules: vec![rule; 32],
-        permissions: vec![permissions],
-    });
-    let request = |operation| Request {
+        permissions: vec![(1..=3).map(permission).collect()],
+    })
+}
+
+fn request(operation: u16) -> Request {
+    Request {
         user: 7,
         roles: 1,
         privilege: privilege(operation),
         context: vec![],
-    };
+    }
+}
+
+/// The largest policy, and tables up to 128 blocks, up to full, all of it one user's and marked for
+/// all rules: a decision then takes the most room that it can.
+#[test]
+fn every_call_on_a_small_stack() {
+    let policy = largest_policy();
     let record = Record {
         request: request(1),
         marks: u32::MAX,
@@ -170,9 +179,8 @@ fn every_call_on_a_small_stack() {
         for held in [0, places(blocks) - 1, places(blocks)] {
             let table = write_table(sums(&policy), &vec![record.clone(); held], blocks);
             let gets = |call, operation, expected: Reply| {
-                let reply =
-                    on_small_stack(call, &policy, &table, &write_request(&request(operation)));
-                assert_eq!(reply, expected);
+                let request = write_request(&request(operation));
+                assert_eq!(on_small_stack(call, &policy, &table, &request), expected);
             };
             gets(Call::CheckPolicy, 1, Reply::accept(32));
             gets(Call::CheckTable, 1, Reply::accept(held));

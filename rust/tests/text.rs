@@ -213,80 +213,63 @@ fn numbers_as_numbers() {
     assert_eq!(format!("{role:^6}|{role:*<3}"), "  32  |32*");
 }
 
+fn form<T: FromStr<Err = ParseError> + Debug>(texts: &[&str]) {
+    for text in texts {
+        let error = text.parse::<T>().unwrap_err();
+        let form = matches!(error, ParseError::Form { .. });
+        assert!(form, "{text}: {error:?}");
+    }
+}
+
+fn out_of_range<T: FromStr<Err = ParseError> + Debug>(text: &str) {
+    let error = text.parse::<T>().unwrap_err();
+    let out_of_range = matches!(error, ParseError::OutOfRange(_));
+    assert!(out_of_range, "{text}: {error:?}");
+}
+
 #[test]
-fn what_is_not_read() {
-    fn form<T: FromStr<Err = ParseError> + Debug>(text: &str) {
-        let error = text.parse::<T>().unwrap_err();
-        assert!(
-            matches!(error, ParseError::Form { .. }),
-            "{text}: {error:?}"
-        );
-    }
-    for text in [
-        "",
-        " 1",
-        "1 ",
-        "+1",
-        "-1",
-        "01",
-        "0x1",
-        "99999999999999999999",
-    ] {
-        form::<User>(text);
-    }
-    fn out_of_range<T: FromStr<Err = ParseError> + Debug>(text: &str) {
-        let error = text.parse::<T>().unwrap_err();
-        assert!(
-            matches!(error, ParseError::OutOfRange(_)),
-            "{text}: {error:?}"
-        );
-    }
+fn numbers_that_are_not_read() {
+    form::<User>(&["", " 1", "1 ", "+1", "-1", "01", "0x1"]);
+    form::<User>(&["99999999999999999999"]);
     out_of_range::<User>("0");
     out_of_range::<User>("4294967296");
     out_of_range::<Role>("33");
     out_of_range::<Operation>("65536");
     out_of_range::<Privilege>("1 on 0");
     out_of_range::<Context>("1=0");
-    for text in [
-        "1=1, 1=1, 1=1, 1=1, 1=1",
-        "",
-        "1=1,2=2",
-        "1",
-        "the whole  business",
-    ] {
-        form::<Context>(text);
-    }
-    form::<Levels>("1=*, 1=!, 1=1, 1=1, 1=1");
-    for text in ["2, 1", "1, 1", "1,2", "1, "] {
-        form::<Roles>(text);
-        form::<Marks>(text);
-    }
-    form::<Marks>("33");
-    form::<Marks>("0");
-    for text in [
-        "grant 2 0 1",
-        "grant 1 0",
-        "grant 1 0 1 0",
-        "grant  1 0 1",
-        "refuse 33 1 1",
-    ] {
-        form::<Grant>(text);
-    }
-    for text in [
+    form::<Roles>(&["2, 1", "1, 1", "1,2", "1, "]);
+    form::<Marks>(&["2, 1", "1, 1", "1,2", "1, ", "33", "0"]);
+}
+
+#[test]
+fn contexts_and_requests_that_are_not_read() {
+    form::<Context>(&["1=1, 1=1, 1=1, 1=1, 1=1", "", "1=1,2=2", "1"]);
+    form::<Context>(&["the whole  business"]);
+    form::<Request>(&["user 7 in roles 1: 1 on 1 at 1=5"]);
+    form::<Request>(&["user 7 in role 1, 2: 1 on 1 at 1=5"]);
+}
+
+#[test]
+fn policies_that_are_not_read() {
+    form::<Levels>(&["1=*, 1=!, 1=1, 1=1, 1=1"]);
+    form::<Rule>(&["over 1=*\n  exclusion 2: 2 of roles 1, 2"]);
+    form::<Rule>(&["over 1=*; last step 1 on 1; first step 2 on 1"]);
+    form::<PolicyBuilder>(&["rule 2: over 1=*\n  exclusion 1: 2 of roles 1, 2\n"]);
+    let twice = "2 of roles 1, 1".parse::<Exclusion>().unwrap_err();
+    assert_eq!(twice, ParseError::Build(BuildError::RoleTwice(Role::of(1))));
+}
+
+#[test]
+fn answers_that_are_not_read() {
+    form::<Grant>(&["grant 2 0 1", "grant 1 0", "grant 1 0 1 0", "grant  1 0 1"]);
+    form::<Grant>(&["refuse 33 1 1"]);
+    let bad = [
         "refuse 0 0 0",
         "refuse 33 1",
         "refused 33 1 1",
         "31: no active role",
-    ] {
-        form::<Line>(text);
-        form::<Refusal>(text);
-    }
-    form::<Refusal>("31: no active role has the permission.");
-    form::<Request>("user 7 in roles 1: 1 on 1 at 1=5");
-    form::<Request>("user 7 in role 1, 2: 1 on 1 at 1=5");
-    form::<Rule>("over 1=*\n  exclusion 2: 2 of roles 1, 2");
-    form::<Rule>("over 1=*; last step 1 on 1; first step 2 on 1");
-    form::<PolicyBuilder>("rule 2: over 1=*\n  exclusion 1: 2 of roles 1, 2\n");
-    let twice = "2 of roles 1, 1".parse::<Exclusion>().unwrap_err();
-    assert_eq!(twice, ParseError::Build(BuildError::RoleTwice(Role::of(1))));
+    ];
+    form::<Line>(&bad);
+    form::<Refusal>(&bad);
+    form::<Refusal>(&["31: no active role has the permission."]);
 }

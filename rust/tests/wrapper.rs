@@ -29,34 +29,36 @@ fn builders_and_readers() {
             .collect();
         assert_eq!(policy.permissions().collect::<Vec<_>>(), permissions);
         getters(&world, &policy);
-
         let blocks = chance.from(1, 4);
         let count = chance.from(0, images::places(blocks));
-        let records = world.records(&mut chance, count);
-        let mut builder = TableBuilder::new(&policy, blocks);
-        for record in &records {
-            let rules: Vec<u32> = (1..=32)
-                .filter(|r| record.marks >> (r - 1) & 1 == 1)
-                .collect();
-            builder = builder.record(request(&record.request), &rules);
-        }
-        let mut image = builder.build().unwrap();
-        let same = images::write_table(images::sums(&built), &records, blocks);
-        assert!(image == same, "the table's image is another");
-        let table = policy.open_table(&mut image).unwrap();
-        assert_eq!(table.places(), images::places(blocks));
-        assert_eq!(table.held(), records.len());
-        for (read, record) in table.records().zip(&records) {
-            assert_eq!(read.request, request(&record.request));
-            assert_eq!(read.marks.bits(), record.marks);
-            let bytes = images::write_request(&record.request);
-            assert_eq!(read.request.to_bytes(), bytes);
-            assert_eq!(Request::read(&bytes), Ok(read.request));
-        }
-        // Shown as text, a table has a line for each record below its heading.
-        assert_eq!(table.to_string().lines().count(), records.len() + 1);
-        assert!(policy.to_string().lines().count() >= rules.len());
+        tables(&policy, blocks, &world.records(&mut chance, count));
     }
+}
+
+/// A table of these records, built and read.
+fn tables(policy: &Policy, blocks: usize, records: &[images::Record]) {
+    let mut builder = TableBuilder::new(policy, blocks);
+    for record in records {
+        let rules: Vec<u32> = (1..=32)
+            .filter(|r| record.marks >> (r - 1) & 1 == 1)
+            .collect();
+        builder = builder.record(request(&record.request), &rules);
+    }
+    let mut image = builder.build().unwrap();
+    let same = images::write_table(images::sums(policy.image()), records, blocks);
+    assert!(image == same, "the table's image is another");
+    let table = policy.open_table(&mut image).unwrap();
+    assert_eq!(table.places(), images::places(blocks));
+    assert_eq!(table.held(), records.len());
+    for (read, record) in table.records().zip(records) {
+        assert_eq!(read.request, request(&record.request));
+        assert_eq!(read.marks.bits(), record.marks);
+        let bytes = images::write_request(&record.request);
+        assert_eq!(read.request.to_bytes(), bytes);
+        assert_eq!(Request::read(&bytes), Ok(read.request));
+    }
+    // Shown as text, a table has a line for each record below its heading.
+    assert_eq!(table.to_string().lines().count(), records.len() + 1);
 }
 
 /// What the getters say, beside what the independent types have.
@@ -97,60 +99,71 @@ fn getters(world: &World, policy: &Policy) {
     }
 }
 
+fn step() -> Privilege {
+    Operation::of(1).on(Target::of(1))
+}
+
+fn apart() -> Exclusion {
+    Exclusion::of_roles(2, &[Role::of(1), Role::of(2)]).unwrap()
+}
+
+/// A policy of so many rules over the whole business and so many permissions.
+fn policy_of(rules: usize, permissions: usize) -> PolicyBuilder {
+    let rule = || Rule::over([]).exclude(apart());
+    let policy = (0..rules).fold(PolicyBuilder::new(), |policy, _| policy.rule(rule()));
+    (0..permissions).fold(policy, |policy, _| policy.permit(Role::of(1), step()))
+}
+
 #[test]
-fn what_cannot_be_built() {
-    let [one, two] = [1, 2].map(Role::of);
-    let step = Operation::of(1).on(Target::of(1));
-    let fine = || Exclusion::of_roles(2, &[one, two]).unwrap();
+fn exclusions_and_rules_that_cannot_be_built() {
     for (m, n) in [(0, 2), (1, 2), (3, 2), (2, 1), (2, 9), (9, 9)] {
         let refused = Err(BuildError::ForbiddenNumber { m, n });
-        assert_eq!(Exclusion::of_privileges(m, &vec![step; n]), refused);
+        assert_eq!(Exclusion::of_privileges(m, &vec![step(); n]), refused);
     }
+    let [one, two] = [1, 2].map(Role::of);
     let twice = Exclusion::of_roles(2, &[one, two, one]);
     assert_eq!(twice, Err(BuildError::RoleTwice(one)));
 
     let build = |rule: Rule| PolicyBuilder::new().rule(rule).build();
-    let whole = || Rule::over([]);
-    let none = BuildError::Exclusions { rule: 1, number: 0 };
-    assert_eq!(build(whole()), Err(none));
-    let nine = (0..9).fold(whole(), |rule, _| rule.exclude(fine()));
-    let error = BuildError::Exclusions { rule: 1, number: 9 };
-    assert_eq!(build(nine), Err(error));
-    let equal = whole().first(step).last(step).exclude(fine());
+    for number in [0, 9] {
+        let rule = (0..number).fold(Rule::over([]), |rule, _| rule.exclude(apart()));
+        let error = BuildError::Exclusions { rule: 1, number };
+        assert_eq!(build(rule), Err(error));
+    }
+    let equal = Rule::over([]).first(step()).last(step()).exclude(apart());
     assert_eq!(build(equal), Err(BuildError::EqualSteps { rule: 1 }));
+}
 
-    let rules = |count| {
-        (0..count).fold(PolicyBuilder::new(), |policy, _| {
-            policy.rule(whole().exclude(fine()))
-        })
-    };
-    assert!(rules(32).build().is_ok());
-    assert_eq!(rules(33).build(), Err(BuildError::Rules(33)));
-    let entries = |count| (0..count).fold(rules(32), |policy, _| policy.permit(one, step));
-    let full = entries(61 * 32).build().unwrap();
+#[test]
+fn policies_that_cannot_be_built() {
+    assert!(policy_of(32, 0).build().is_ok());
+    assert_eq!(policy_of(33, 0).build(), Err(BuildError::Rules(33)));
+    let full = policy_of(32, 61 * 32).build().unwrap();
     assert_eq!(Policy::check(&full).unwrap().rule_count(), 32);
     let error = Err(BuildError::PolicyBlocks(65));
-    assert_eq!(entries(61 * 32 + 1).build(), error);
+    assert_eq!(policy_of(32, 61 * 32 + 1).build(), error);
+}
 
-    let policy = Policy::check(&full).unwrap();
+#[test]
+fn tables_that_cannot_be_built() {
+    let policy = Policy::own(policy_of(32, 1).build().unwrap()).unwrap();
     for blocks in [0, 129] {
         let error = Err(BuildError::TableBlocks(blocks));
         assert_eq!(TableBuilder::new(&policy, blocks).build(), error);
     }
-    let request = Request::new(User::of(1), one, step, []);
+    let request = Request::new(User::of(1), Role::of(1), step(), []);
     let records = |count, rules: &[u32]| {
         let empty = TableBuilder::new(&policy, 1);
-        (0..count).fold(empty, |table, _| table.record(request, rules))
+        (0..count)
+            .fold(empty, |table, _| table.record(request, rules))
+            .build()
     };
-    assert!(records(15, &[1, 32]).build().is_ok());
-    assert_eq!(records(16, &[1]).build(), Err(BuildError::Records(16)));
-    assert_eq!(
-        records(2, &[]).build(),
-        Err(BuildError::NoMark { record: 1 })
-    );
+    assert!(records(15, &[1, 32]).is_ok());
+    assert_eq!(records(16, &[1]), Err(BuildError::Records(16)));
+    assert_eq!(records(2, &[]), Err(BuildError::NoMark { record: 1 }));
     for rule in [0, 33, u32::MAX] {
         let error = Err(BuildError::RuleNumber { record: 1, rule });
-        assert_eq!(records(2, &[1, rule]).build(), error);
+        assert_eq!(records(2, &[1, rule]), error);
     }
 }
 
@@ -214,11 +227,10 @@ fn numbers() {
 /// A table can be decided on in another thread, and its policy can be shared.
 #[test]
 fn threads() {
-    let step = Operation::of(1).on(Target::of(1));
-    let twice = Exclusion::of_privileges(2, &[step, step]).unwrap();
+    let twice = Exclusion::of_privileges(2, &[step(), step()]).unwrap();
     let image = PolicyBuilder::new()
         .rule(Rule::over([]).exclude(twice))
-        .permit(Role::of(1), step)
+        .permit(Role::of(1), step())
         .build()
         .unwrap();
     let policy = Policy::check(&image).unwrap();
@@ -227,7 +239,7 @@ fn threads() {
         for buffer in &mut buffers {
             scope.spawn(|| {
                 let mut table = policy.fresh_table(buffer).unwrap();
-                let request = Request::new(User::of(1), Role::of(1), step, []);
+                let request = Request::new(User::of(1), Role::of(1), step(), []);
                 assert!(table.decide(&request).is_ok());
                 let expected = Refusal::ExclusivePrivileges {
                     rule: 1,
