@@ -1,12 +1,12 @@
 -- `matching::rules::match_rules` meets its contract: the sets are those of the rules that were looked at.
 -- Assumes nothing.
-use Prim.Native.Nat.{ℕ, _+_, _-_, _*_, _<_, _≤_}
+use Prim.Native.Nat.{ℕ, _+_, _-_, _*_, _^_, _<_, _≤_}
 use native.Mathlib.Omega.{arith}
 use mathlib.Core.Path.{_≡_, sym, ap, ap₂, _∙_}
-use mathlib.Core.Bool.{Bool, not, _&&_, _||_}
+use mathlib.Core.Bool.{Bool, cond, not, _&&_, _||_}
 use mathlib.Core.List.{List}
-use lib.ListN.{length}
-use Rattle.words.specs.Bytes.{bits}
+use lib.ListN.{length, take, drop}
+use Rattle.words.specs.Bytes.{bits, part}
 use Rattle.word_laws.proofs.Parts.{part-to, part-length, part-whole}
 use Rattle.word_laws.proofs.BitLaws.{bits-start}
 use Rattle.format.specs.Block.{block}
@@ -101,70 +101,60 @@ fits-requires c κs =
 flag-requires : tie.Need-flag-requires Inv-loop μ-loop
 flag-requires c κs = few (c .before .before)
 
--- the turn of each set
-module _ (c : tie.After-flag Inv-loop μ-loop) where
-  next-fitting :
-      let l = turn₁ c .before .loop in
-      let a = call (turn₁ c) .args in
-      (l .fitting + c .flag .result ≡ those fit (a .policy .now) (a .q .now) (l .i + 1)) × (l .fitting + c .flag .result < 4294967296)
-  next-fitting =
-      let l = turn₁ c .before .loop in
-      let s = call (turn₁ c) in
-      let a = s .args in
-      bits-next (l .i) (λ i. fit (a .q .now) (block (a .policy .now) i)) (few (turn₁ c)) (l .inv .1 .0)
-      (c .before .fits2 .ensures ∙ ap₂ {C = Bool} (λ (b : List ℕ) (q : Request). fit q b) (part-to (a .policy .now) (512 * l .i) 512) (part-whole (a .q .now) 28 (s .pre .1)))
-      (c .flag .ensures)
+-- what each set takes in at a turn: with the flag m of the rule at hand, x is the set of one rule more
+abbrev Next : (Request → List ℕ → Bool) → tie.In-loop Inv-loop μ-loop → ℕ → ℕ → Type 0
+Next f t x m = (x + m ≡ those f (call t .args .policy .now) (call t .args .q .now) (t .before .loop .i + 1)) × (x + m < 4294967296)
+
+module _ (f : Request → List ℕ → Bool) (t : tie.In-loop Inv-loop μ-loop) where
+  next :
+      {x m : ℕ} {b : Bool} → x ≡ those f (call t .args .policy .now) (call t .args .q .now) (t .before .loop .i)
+      → b ≡ f (call t .args .q .now) (block (call t .args .policy .now) (t .before .loop .i)) → m ≡ cond b (2 ^ t .before .loop .i) 0 → Next f t x m
+  next = bits-next (t .before .loop .i) (λ i. f (call t .args .q .now) (block (call t .args .policy .now) i)) (few t)
+
+-- the block and the request, as the code lends them
+module _ (t : tie.In-loop Inv-loop μ-loop) where
+  lent-block : take (512 * t .before .loop .i + 512 - 512 * t .before .loop .i) (drop (512 * t .before .loop .i) (call t .args .policy .now)) ≡ block (call t .args .policy .now) (t .before .loop .i)
+  lent-block = part-to (call t .args .policy .now) (512 * t .before .loop .i) 512
+
+  lent-request : part (call t .args .q .now) 0 28 ≡ call t .args .q .now
+  lent-request = part-whole (call t .args .q .now) 28 (call t .pre .1)
+
+next-fitting : (c : tie.After-flag Inv-loop μ-loop) → Next fit (turn₁ c) (turn₁ c .before .loop .fitting) (c .flag .result)
+next-fitting c =
+    let t = turn₁ c in
+    next fit t (t .before .loop .inv .1 .0)
+    (c .before .fits2 .ensures ∙ ap₂ {C = Bool} (λ (b : List ℕ) (q : Request). fit q b) (lent-block t) (lent-request t)) (c .flag .ensures)
 
 add-fitting : tie.Need-add-fitting Inv-loop μ-loop
 add-fitting c = omega (arith, next-fitting c .1)
 
 needs-no-run-requires : tie.Need-needs-no-run-requires Inv-loop μ-loop
-needs-no-run-requires c κs =
-    let s = call (turn₁ c) in
-    let i = turn₁ c .before .loop .i in
-    rw (part-to (s .args .policy .now) (512 * i) 512) (whole (turn₁ c), s .pre .1)
+needs-no-run-requires c κs = rw (lent-block (turn₁ c)) (whole (turn₁ c), call (turn₁ c) .pre .1)
 
 flag-requires-2 : tie.Need-flag-requires-2 Inv-loop μ-loop
 flag-requires-2 c κs = few (turn₁ (c .before))
 
-module _ (c : tie.After-flag2 Inv-loop μ-loop) where
-  next-starting :
-      let l = turn₂ c .before .loop in
-      let a = call (turn₂ c) .args in
-      (l .starting + c .flag2 .result ≡ those start (a .policy .now) (a .q .now) (l .i + 1)) × (l .starting + c .flag2 .result < 4294967296)
-  next-starting =
-      let l = turn₂ c .before .loop in
-      let s = call (turn₂ c) in
-      let a = s .args in
-      bits-next (l .i) (λ i. start (a .q .now) (block (a .policy .now) i)) (few (turn₂ c)) (l .inv .1 .1 .0)
-      (ap₂ {C = Bool} (λ (f g : Bool). f && g) (c .before .before .before .fits2 .ensures) (c .before .needs-no-run .ensures)
-      ∙ ap₂ {C = Bool} (λ (b : List ℕ) (q : Request). fits (ruleAt b) q && (not (isSet (ruleAt b .firstStep)) || isFirst (ruleAt b) (a .q .now)))
-      (part-to (a .policy .now) (512 * l .i) 512) (part-whole (a .q .now) 28 (s .pre .1)))
-      (c .flag2 .ensures)
+next-starting : (c : tie.After-flag2 Inv-loop μ-loop) → Next start (turn₂ c) (turn₂ c .before .loop .starting) (c .flag2 .result)
+next-starting c =
+    let t = turn₂ c in
+    next start t (t .before .loop .inv .1 .1 .0)
+    (ap₂ {C = Bool} (λ (f g : Bool). f && g) (c .before .before .before .fits2 .ensures) (c .before .needs-no-run .ensures)
+    ∙ ap₂ {C = Bool} (λ (b : List ℕ) (q : Request). fits (ruleAt b) q && (not (isSet (ruleAt b .firstStep)) || isFirst (ruleAt b) (call t .args .q .now))) (lent-block t) (lent-request t))
+    (c .flag2 .ensures)
 
 add-starting : tie.Need-add-starting Inv-loop μ-loop
 add-starting c = omega (arith, next-starting c .1)
 
 is-last-requires : tie.Need-is-last-requires Inv-loop μ-loop
-is-last-requires c κs =
-    let s = call (turn₂ c) in
-    let i = turn₂ c .before .loop .i in
-    rw (part-to (s .args .policy .now) (512 * i) 512) (whole (turn₂ c), s .pre .1)
+is-last-requires c κs = rw (lent-block (turn₂ c)) (whole (turn₂ c), call (turn₂ c) .pre .1)
 
 flag-requires-3 : tie.Need-flag-requires-3 Inv-loop μ-loop
 flag-requires-3 c κs = few (turn₂ (c .before))
 
-module _ (c : tie.After-flag3 Inv-loop μ-loop) where
-  next-last :
-      let l = turn₃ c .before .loop in
-      let a = call (turn₃ c) .args in
-      (l .last + c .flag3 .result ≡ those final (a .policy .now) (a .q .now) (l .i + 1)) × (l .last + c .flag3 .result < 4294967296)
-  next-last =
-      let l = turn₃ c .before .loop in
-      let a = call (turn₃ c) .args in
-      bits-next (l .i) (λ i. final (a .q .now) (block (a .policy .now) i)) (few (turn₃ c)) (l .inv .1 .1 .1)
-      (c .before .is-last .ensures ∙ ap (final (a .q .now)) (part-to (a .policy .now) (512 * l .i) 512))
-      (c .flag3 .ensures)
+next-last : (c : tie.After-flag3 Inv-loop μ-loop) → Next final (turn₃ c) (turn₃ c .before .loop .last) (c .flag3 .result)
+next-last c =
+    let t = turn₃ c in
+    next final t (t .before .loop .inv .1 .1 .1) (c .before .is-last .ensures ∙ ap (final (call t .args .q .now)) (lent-block t)) (c .flag3 .ensures)
 
 add-last : tie.Need-add-last Inv-loop μ-loop
 add-last c = omega (arith, next-last c .1)
