@@ -30,7 +30,7 @@ module _ (e : Each) (q : Request) (ends : ℕ) where
   after-one gives rs z = rw (sweep-one (record { request = q; marks = gives }) z)
 
   -- their number
-  left-few : (rs : List Record) → length (leftBy e q ends rs) ≤ length rs
+  pub left-few : (rs : List Record) → length (leftBy e q ends rs) ≤ length rs
   unfolding leftBy sweep
   left-few rs = omega (arith, keep-split hasMark (map (clearedBy e q ends) rs), length-map rs (clearedBy e q ends))
 
@@ -52,16 +52,6 @@ module _ (e : Each) (q : Request) (ends : ℕ) where
         length-append (leftBy e q ends rs) (sweep (record { request = q; marks = gives } ∷ [])),
         length-swept (record { request = q; marks = gives }),
       )
-
--- ---- where no record changes
-
-module _ (e : Each) (q : Request) (ends gives : ℕ) (s : List ℕ) (n : ℕ) (stay : leftBy e q ends (recordsHere s n) ≡ recordsHere s n) where
-  pub stay-none : gives ≡ 0 → afterBy e q ends gives (recordsHere s n) ≡ recordsHere s n
-  stay-none z = after-none e q ends gives (recordsHere s n) z ∙ stay
-
-  pub stay-length : (gives ≡ 0 → ⊥) → n + 1 ≡ length (afterBy e q ends gives (recordsHere s n))
-  stay-length z =
-      sym (after-count e q ends gives (recordsHere s n) z ∙ ap (λ (rs : List Record). length rs + 1) stay ∙ ap (λ (m : ℕ). m + 1) (length-here s n))
 
 -- the number recorded
 pub recorded-none : (gives : ℕ) → gives ≡ 0 → _≡_ {A = ℕ} (cond (eqb gives 0) 0 1) 0

@@ -1,4 +1,4 @@
-// Whether there is room for the new table: how many records keep a mark is counted only where the table is full.
+// How many records the new table holds, and whether there is room for them: those that keep a mark are counted only where they have to be.
 ghost use mathlib.Core.Path.{_≡_};
 ghost use mathlib.Core.List.{[], _∷_};
 ghost use Prim.Native.Nat.{_<_, _≤_};
@@ -26,8 +26,8 @@ fn stays(each: Each, ends: RuleSet, q: &[u8], table: &[u8], n: usize, i: usize) 
     1
 }
 
-// How many of the n records keep a mark.
-fn kept(each: Each, ends: RuleSet, q: &[u8], table: &[u8], n: usize) -> usize
+// How many of the n records keep a mark, one by one.
+fn count_kept(each: Each, ends: RuleSet, q: &[u8], table: &[u8], n: usize) -> usize
     requires { ⌜ length (now q) ≡ requestBytes ⌝ }
     requires { ⌜ HasRoom (now table) n ⌝ }
     ensures { λ r. ⌜ r ≡ length (leftBy each (now (q .entry)) (ends .0) (recordsHere (now (table .entry)) n)) ⌝ }
@@ -39,7 +39,32 @@ fn kept(each: Each, ends: RuleSet, q: &[u8], table: &[u8], n: usize) -> usize
     count
 }
 
-// The records that are left, and the request if it has a mark, are no more than there is room for.
+// The same: where no rule ends, all of them do.
+fn kept(each: Each, ends: RuleSet, q: &[u8], table: &[u8], n: usize) -> usize
+    requires { ⌜ length (now q) ≡ requestBytes ⌝ }
+    requires { ⌜ (HasRoom (now table) n) × (AllMarked (now table) n) ⌝ }
+    ensures { λ r. ⌜ r ≡ length (leftBy each (now (q .entry)) (ends .0) (recordsHere (now (table .entry)) n)) ⌝ }
+{
+    if ends.is_empty() {
+        return n;
+    }
+    count_kept(each, ends, q, table, n)
+}
+
+// How many records the table then holds: those that are left, and the request if it has a mark.
+pub fn held_after(each: Each, effect: Effect, q: &[u8], table: &[u8], n: usize) -> usize
+    requires { ⌜ length (now q) ≡ requestBytes ⌝ }
+    requires { ⌜ (HasRoom (now table) n) × (AllMarked (now table) n) ⌝ }
+    ensures { λ r. ⌜ r ≡ length (afterBy each (now (q .entry)) (effect .ends .0) (effect .gives .0) (recordsHere (now (table .entry)) n)) ⌝ }
+{
+    let left = kept(each, effect.ends, q, table, n);
+    if effect.gives.is_empty() {
+        return left;
+    }
+    left + 1
+}
+
+// They are no more than there is room for.
 pub fn has_room(each: Each, effect: Effect, q: &[u8], table: &[u8], n: usize, room: usize) -> bool
     requires { ⌜ (length (now q) ≡ requestBytes) × (n ≤ room) ⌝ }
     requires { ⌜ (HasRoom (now table) n) × (AllMarked (now table) n) ⌝ }
@@ -50,9 +75,6 @@ pub fn has_room(each: Each, effect: Effect, q: &[u8], table: &[u8], n: usize, ro
     }
     if n < room {
         return true;
-    }
-    if effect.ends.is_empty() {
-        return false;
     }
     kept(each, effect.ends, q, table, n) < room
 }

@@ -6,6 +6,7 @@ pub mod Nobody
 pub mod GoodRecords
 pub mod Demand3
 pub mod Consequences
+pub mod Previews
 pub mod Adequacy
 pub mod Fifteen
 pub mod Sample

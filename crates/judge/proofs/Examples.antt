@@ -3,7 +3,7 @@
 -- where they are used.
 -- Assumes nothing.
 use Prim.Native.Nat.{ℕ, _*_}
-use mathlib.Core.Path.{_≡_, refl}
+use mathlib.Core.Path.{_≡_, refl, ap}
 use mathlib.Core.Bool.{true, false}
 use mathlib.Core.List.{List, [], _∷_, _++_, map}
 use mathlib.Core.Option.{Option, none, some}
@@ -26,6 +26,7 @@ use Rattle.judge.specs.Verdict.{grants, permitted, isFirst, isLast, judg
 use Rattle.judge.specs.NewTable.{standsIn, openIn, pastIn, ends, gives, recordOf, cleared, sweep, newTable, grantOf, tableAfter, judgeFault}
 use Rattle.judge.specs.NewTable.{judge}
 use Rattle.judge.specs.Decide.{decideFault, decide}
+use Rattle.judge.specs.Preview.{preview}
 
 -- what these examples compute with
 opened : Unit {0}
@@ -358,3 +359,22 @@ module _ (policy table request : List ℕ) (passes : policyFault policy ≡ none
       → decide policy table request ≡ record { answer = a; state = tableImage (stamp policy) (blocks table) rs }
   unfolding decideFault decide refusing _orElse_
   grant-in-bytes q f a rs j = rw (passes, good, q, f, j) refl
+
+  -- ---- preview, on bytes: "what the decision would return"
+
+  -- a refusal by the judge's numbers, 34 among them
+  pub preview-of-a-refusal : requestFault request ≡ none → (r : Refusal) → fault ≡ some r → preview policy table request ≡ refuse r
+  unfolding preview
+  preview-of-a-refusal q r f = ap (λ o. o .answer) (rows-judge q r f)
+
+  -- a grant with its three numbers as they would be afterwards
+  pub preview-of-a-grant :
+      requestFault request ≡ none → fault ≡ none → (a : Answer) (rs : List Record) → judged ≡ record { answer = a; state = rs }
+      → preview policy table request ≡ a
+  unfolding preview
+  preview-of-a-grant q f a rs j = ap (λ o. o .answer) (grant-in-bytes q f a rs j)
+
+-- and a refusal by the numbers before: no policy, a table of two bytes, no request
+pub preview-of-no-policy : preview [] (7 ∷ 8 ∷ []) [] ≡ refuse (refusal 1 0 0)
+unfolding preview
+preview-of-no-policy = ap (λ o. o .answer) rows-policy

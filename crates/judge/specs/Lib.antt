@@ -2,4 +2,5 @@ pub mod Tally
 pub mod Verdict
 pub mod NewTable
 pub mod Decide
+pub mod Preview
 pub mod Sample

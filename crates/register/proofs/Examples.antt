@@ -21,6 +21,8 @@ use Rattle.format.specs.Table.{tableImage}
 use Rattle.judge.specs.Tally.{sameUser, does, countsFor, roleTally, timesListed, timesDone, repeats, privilegeTally, tally, reached, exclusionNumber}
 use Rattle.judge.specs.Tally.{counted}
 use Rattle.judge.specs.Verdict.{grants, permitted, isFirst, isLast, judges, failing, verdict}
+use Rattle.judge.specs.Decide.{decide}
+use Rattle.judge.specs.Preview.{preview}
 use Rattle.judge.specs.Sample.{sampleAnswers}
 use Rattle.register.specs.Run.{Entry, numbered, entriesOf, afterLatest, fromEarliest, ofPlace, run}
 use Rattle.register.specs.Register.{runOf, openRun, pastRun, isIn, lies, liesInSome, heldOf, removedOf, recordedOf, registerFault, granted}
@@ -29,6 +31,7 @@ use Rattle.register.specs.Image.{recordFor, recordsFor, registerImage}
 use Rattle.register.specs.Reached.{NobodyIn, standing, withStep, Nobody}
 use Rattle.register.specs.Demand3.{answers, states, after, AtGrant, AtEvery, NobodyEver}
 use Rattle.register.specs.Consequences.{recordedSum, removedSum, lastHeldFrom, lastHeld}
+use Rattle.register.specs.Previews.{deciding, previewing, callStep, decided, toDecisions}
 
 -- what these examples compute with
 unfoldable pub opened : Unit {0}
@@ -290,3 +293,19 @@ pub added-up :
     × (map lastHeld ([] ∷ sampleAnswers ∷ (grant 1 0 3 ∷ refuse (refusal 33 1 1) ∷ accept 15 ∷ []) ∷ []) ≡ 0 ∷ 5 ∷ 3 ∷ [])
 unfolding sampleAnswers recordedSum removedSum lastHeldFrom lastHeld
 added-up = (refl, refl, refl)
+
+-- ---- previews among decisions
+
+-- a preview answers as the decision would, and leaves the table; of whatever bytes
+pub preview-among-calls :
+    (policy table q : List ℕ)
+    → map (callStep policy table) (previewing q ∷ deciding q ∷ []) ≡ record { answer = decide policy table q .answer; state = table } ∷ decide policy table q ∷ []
+unfolding callStep preview
+preview-among-calls policy table q = refl
+
+-- four calls, of which the second and the last are decisions: their requests, and their answers
+pub decisions-among-calls :
+    (let calls = previewing [] ∷ deciding (1 ∷ []) ∷ previewing (2 ∷ []) ∷ deciding (3 ∷ []) ∷ [] in
+    (decided calls ≡ (1 ∷ []) ∷ (3 ∷ []) ∷ []) × (toDecisions calls (accept 1 ∷ accept 2 ∷ accept 3 ∷ accept 4 ∷ []) ≡ accept 2 ∷ accept 4 ∷ []))
+unfolding decided toDecisions
+decisions-among-calls = (refl, refl)

@@ -4,3 +4,4 @@ pub mod Image
 pub mod Reached
 pub mod Demand3
 pub mod Consequences
+pub mod Previews

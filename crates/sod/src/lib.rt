@@ -1,7 +1,8 @@
-// The boundary for other languages: the four entry points as C functions, and one struct by value. include/sod.h says what a caller owes.
+// The boundary for other languages: the five entry points as C functions, and one struct by value. include/sod.h says what a caller owes.
 ghost use mathlib.Core.Path.{_≡_};
 ghost use Rattle.format.specs.Calls.{checkPolicy, checkTable, makeTable};
 ghost use Rattle.judge.specs.Decide.{decide as decideOf};
+ghost use Rattle.judge.specs.Preview.{preview as previewOf};
 ghost use Rattle.engine.specs.Code.{answerOf};
 ghost use Rattle.engine.specs.Numbers.{four};
 ghost use Rattle.sod.specs.Code.{fourOf, left};
@@ -9,6 +10,7 @@ use engine::checks::check_policy;
 use engine::checks::check_table;
 use engine::checks::make_table;
 use engine::deciding::decide;
+use engine::deciding::preview;
 use engine::reply::Reply;
 
 // An answer in four numbers: 0 and what acceptance or a grant returns, or a refusal's number and its two places.
@@ -72,4 +74,11 @@ pub extern "C" fn sod_decide(policy: &[u8], table: &mut [u8], request: &[u8]) ->
     ensures { λ r. ⌜ left (fourOf r) (now (table .exit)) ≡ left (four (decideOf (now (policy .entry)) (now (table .entry)) (now (request .entry)) .answer)) (decideOf (now (policy .entry)) (now (table .entry)) (now (request .entry)) .state) ⌝ }
 {
     reply_of(decide(policy, table, request))
+}
+
+#[no_mangle]
+pub extern "C" fn sod_preview(policy: &[u8], table: &[u8], request: &[u8]) -> SodReply
+    ensures { λ r. ⌜ fourOf r ≡ four (previewOf (now (policy .entry)) (now (table .entry)) (now (request .entry))) ⌝ }
+{
+    reply_of(preview(policy, table, request))
 }

@@ -7,7 +7,7 @@ use mathlib.Core.Bool.{Bool, true, false, cond, not}
 use mathlib.Core.List.{List, [], _∷_}
 use lib.ListN.{length}
 use lib.Dec.{eqb, leb}
-use borrow.Author.Tests.{not-true, not-false, leb-true}
+use borrow.Author.Tests.{not-true, not-false, leb-true, le-leb, lt-leb}
 use Rattle.words.specs.Sums.{Sums}
 use Rattle.word_laws.proofs.Every.{Every, every-both, every-weaken}
 use Rattle.format.specs.Answer.{Answer, grant, refuse, refusal, Outcome}
@@ -43,6 +43,13 @@ held-few e q ends gives s n is = omega (arith, after-few e q ends gives (records
 
 pub room-fits : {r : Bool} (x room : ℕ) → r ≡ leb x room → not r ≡ false → x ≤ room
 room-fits {r} x room is h = leb-true x room (sym is ∙ not-false r h)
+
+-- so many records, counted, are more than there are places for, or not
+pub too-many : {x held c room : ℕ} → held ≡ x → room ≡ c → room < held → false ≡ leb x c
+too-many {x} {held} {c} {room} is has over = sym (lt-leb x c (omega (arith, is, has, over)))
+
+pub few-enough : {x held c room : ℕ} → held ≡ x → room ≡ c → held ≤ room → true ≡ leb x c
+few-enough {x} {held} {c} {room} is has fit = sym (le-leb x c (omega (arith, is, has, fit)))
 
 module _ {policy : List ℕ} {t : Sums} {e : Each} {effect : Effect} {q s : List ℕ} {n : ℕ} (j : Judged policy t e effect q s n) (st : Standing policy t s n) where
   few-of : policyOf policy .rules ≤ 32

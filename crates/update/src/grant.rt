@@ -31,7 +31,7 @@ pub enum Updated {
 }
 
 // The numbers of a grant, from the records before and after.
-fn granted(n: usize, gives: RuleSet, held: usize) -> Updated
+pub fn granted(n: usize, gives: RuleSet, held: usize) -> Updated
     requires { ⌜ (n ≤ capacity tableBlocks) × (held ≤ n + cond (eqb (gives .0) 0) 0 1) ⌝ }
     ensures { λ r. ⌜ answerOf r ≡ grant (cond (eqb (gives .0) 0) 0 1) (n + cond (eqb (gives .0) 0) 0 1 - held) held ⌝ }
 {

@@ -1,3 +1,4 @@
-// Steps 4 and 5 of the judge on bytes: marks cleared, records removed, the request recorded, the table written.
+// Steps 4 and 5 of the judge on bytes: marks cleared, records removed, the request recorded, the table written; or what they would answer.
+pub mod foreseeing;
 pub mod grant;
 pub mod table_after;

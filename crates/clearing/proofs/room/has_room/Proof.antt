@@ -4,11 +4,11 @@ use Prim.Native.Nat.{ℕ}
 use native.Mathlib.Omega.{arith}
 use mathlib.Core.Path.{_≡_, sym, _∙_}
 use lib.ListN.{length}
-use borrow.Author.Tests.{le-leb, lt-leb, eqb-true, eqb-false}
+use borrow.Author.Tests.{le-leb, eqb-true, eqb-false}
 use Rattle.format.specs.Records.{recordsHere}
-use Rattle.clearing.specs.Cleared.{leftBy, afterBy}
-use Rattle.clearing.proofs.Left.{length-here, left-all}
-use Rattle.clearing.proofs.After.{after-few, counted-room, stay-length, recorded-none, recorded-one}
+use Rattle.clearing.specs.Cleared.{afterBy}
+use Rattle.clearing.proofs.Left.{length-here}
+use Rattle.clearing.proofs.After.{after-few, counted-room, recorded-none, recorded-one}
 use borrow.Author.Needs.{needs}
 use Rattle.clearing.proofs.room.has_room.Statement.{statement}
 use Rattle.clearing.proofs.room.has_room.Tie as tie
@@ -51,38 +51,16 @@ returns-2 c =
       c .if2 .taken,
     )))
 
-is-empty-requires-2 : tie.Need-is-empty-requires-2
-is-empty-requires-2 c κs = search needs
-
-returns-3 : tie.Need-returns-3
-unfolding held
-returns-3 c =
-    let f = c .before in
-    let g = f .before .before in
-    let e = g .before in
-    let s = e .before .before .before in
-    let a = s .args in
-    let rs = recordsHere (a .table .now) (a .n) in
-    let none = eqb-true (a .effect .ends .0) 0 (sym (f .is-empty2 .ensures) ∙ c .if3 .taken) in
-    let some = eqb-false (a .effect .gives .0) 0 (sym (e .is-empty .ensures) ∙ g .if1 .left) in
-    let stay : leftBy (a .each) (a .q .now) (a .effect .ends .0) rs ≡ rs = rw none (left-all (a .each) (a .q .now) rs (s .pre .1 .1)) in
-    sym (lt-leb (held e) (a .room)
-    (omega (
-      arith,
-      stay-length (a .each) (a .q .now) (a .effect .ends .0) (a .effect .gives .0) (a .table .now) (a .n) stay some,
-      f .before .if2 .left,
-    )))
-
 kept-requires : tie.Need-kept-requires
 kept-requires c κs = search needs
 
-returns-4 : tie.Need-returns-4
-returns-4 c =
-    let g = c .before .before .before .before in
+returns-3 : tie.Need-returns-3
+returns-3 c =
+    let g = c .before .before in
     let e = g .before in
     let a = e .before .before .before .args in
     let some = eqb-false (a .effect .gives .0) 0 (sym (e .is-empty .ensures) ∙ g .if1 .left) in
     counted-room (a .each) (a .q .now) (a .effect .ends .0) (a .effect .gives .0) (recordsHere (a .table .now) (a .n)) some (c .kept .result) (a .room) (c .kept .ensures)
 
 pub has-room-spec : {M : Type 1} → statement M
-has-room-spec = tie.close (tie.spec is-empty-requires returns returns-2 is-empty-requires-2 returns-3 kept-requires returns-4)
+has-room-spec = tie.close (tie.spec is-empty-requires returns returns-2 kept-requires returns-3)

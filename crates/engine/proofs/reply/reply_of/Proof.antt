@@ -1,10 +1,10 @@
--- `engine::deciding::reply_of` meets its contract.
+-- `engine::reply::reply_of` meets its contract.
 -- Assumes nothing.
 use mathlib.Core.Path.{sym, ap}
 use Rattle.update.specs.Updating.{answerOf as updatedOf}
 use borrow.Author.Needs.{needs}
-use Rattle.engine.proofs.deciding.reply_of.Statement.{statement}
-use Rattle.engine.proofs.deciding.reply_of.Tie as tie
+use Rattle.engine.proofs.reply.reply_of.Statement.{statement}
+use Rattle.engine.proofs.reply.reply_of.Tie as tie
 
 enum-told : tie.Need-enum-told
 enum-told c = search needs
