@@ -1,4 +1,4 @@
-//! The four calls of the engine on bytes, as include/sod.h has them.
+//! The five calls of the engine on bytes, as include/sod.h has them.
 //!
 //! Nothing is assumed of the bytes: whatever they are, each call answers, and a refused one alters
 //! none. A slice has a true length, and the borrow checker keeps a lent table apart from the policy
@@ -100,6 +100,14 @@ extern "C" {
         request: *const u8,
         request_len: usize,
     ) -> Reply;
+    fn sod_preview(
+        policy: *const u8,
+        policy_len: usize,
+        table: *const u8,
+        table_len: usize,
+        request: *const u8,
+        request_len: usize,
+    ) -> Reply;
 }
 
 /// Checks a policy: its rules, or 1 to 6.
@@ -127,6 +135,21 @@ pub fn decide(policy: &[u8], table: &mut [u8], request: &[u8]) -> Result<Grant, 
             policy.as_ptr(),
             policy.len(),
             table.as_mut_ptr(),
+            table.len(),
+            request.as_ptr(),
+            request.len(),
+        )
+    };
+    reply.grant()
+}
+
+/// What [`decide`] would answer, every number included; the table stays as it is.
+pub fn preview(policy: &[u8], table: &[u8], request: &[u8]) -> Result<Grant, Refusal> {
+    let reply = unsafe {
+        sod_preview(
+            policy.as_ptr(),
+            policy.len(),
+            table.as_ptr(),
             table.len(),
             request.as_ptr(),
             request.len(),
