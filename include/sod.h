@@ -3,9 +3,10 @@
  *
  * One person adjusts an instrument, another checks it, however many visits lie between the two.
  * The engine is lent a duty policy and a table of earlier grants, takes one request, grants it or
- * refuses it by number, and brings the table up to date. It has no state of its own, allocates
- * nothing and opens nothing: all that it knows is in the bytes that it is lent. Of its surroundings it
- * needs `memset` and a stack, nothing else.
+ * refuses it by number, and brings the table up to date. A preview tells beforehand what a request
+ * would get. The engine has no state of its own, allocates nothing and opens nothing: all that it
+ * knows is in the bytes that it is lent. Of its surroundings it needs `memset` and a stack, nothing
+ * else.
  *
  * docs/GUIDE.md tells what a policy means, and what to know before a grant is relied on: separation
  * can be lost outside the engine (a context with its levels in another order, two copies of a table)
@@ -26,8 +27,11 @@
  *   - Every pointer with its length names memory that is there: readable, and for a `uint8_t *`
  *     (not const) writable too. Length 0 with any pointer, NULL too, is fine and gets its number.
  *   - A table that is written to (sod_fresh_table, sod_decide) overlaps neither policy nor request.
- *   - While a call is at work on a table, no other thread reads or writes it, and none writes the
- *     policy or the request. Different tables may be decided on at the same time, under one policy.
+ *     What is only read (every `const uint8_t *`) may overlap.
+ *   - While a call that writes to a table is at work, no other thread reads or writes that table;
+ *     and while any call is at work, no thread writes what it only reads. So different tables may be
+ *     decided on at the same time under one policy, and any number of threads may check and preview
+ *     one table at the same time, as long as none decides on it.
  *   - No alignment is asked.
  *   - SOD_STACK bytes of stack are free for each call, whatever the bytes and lengths.
  *
@@ -91,7 +95,7 @@
 #include <stdint.h>
 
 /* The version of this interface. */
-#define SOD_VERSION "0.1.0"
+#define SOD_VERSION "0.2.0"
 
 /* Whoever drops a reply is warned: a refusal that nobody reads is a step taken all the same. */
 #if defined(__cplusplus) && __cplusplus >= 201703L
@@ -123,7 +127,8 @@ enum {
 /*
  * What a call returns.
  *
- * number 0 is acceptance or grant. Then first, second, third are:
+ * number 0 is acceptance, grant or, from sod_preview, what would be a grant. Then first, second,
+ * third are:
  *
  *     sod_check_policy   rules, 0, 0
  *     sod_check_table    records, 0, 0
@@ -131,6 +136,8 @@ enum {
  *     sod_decide         recorded (1 if some rule will count this step, else 0),
  *                        removed (earlier records that no rule counts any more),
  *                        held (records in the table now)
+ *     sod_preview        recorded, removed, held, as sod_decide would return them: held is how many
+ *                        records the table would have then
  *
  * Any other number is a refusal; first and second are its places, third is 0. The first number that
  * applies is given: those of the policy, then of the table, then of the request, then of the
@@ -197,6 +204,19 @@ SOD_NODISCARD
 sod_reply sod_decide(const uint8_t *policy, size_t policy_len,
                      uint8_t *table, size_t table_len,
                      const uint8_t *request, size_t request_len);
+
+/*
+ * Previews a request: returns what sod_decide would return on a copy of the table, every number and
+ * place included, and alters nothing. So it is refused by any number, and by 34 only where the step
+ * would need a place and its own clearing would make none.
+ *
+ * Number 0 is no grant. Nothing is recorded and nothing is reserved: until the request is decided,
+ * others may be granted and change the answer. Decide before the step is taken, and go by that reply.
+ */
+SOD_NODISCARD
+sod_reply sod_preview(const uint8_t *policy, size_t policy_len,
+                      const uint8_t *table, size_t table_len,
+                      const uint8_t *request, size_t request_len);
 
 #ifdef __cplusplus
 }

@@ -1,8 +1,9 @@
 /*
  * Keeps a policy and its table in a folder, so that no grant is lost: not to a crash, not to a second terminal.
  *
- *     keep FOLDER fresh BLOCKS    makes FOLDER/table for FOLDER/policy, if there is none
- *     keep FOLDER < REQUESTS      decides requests of 28 bytes, a line for each
+ *     keep FOLDER fresh BLOCKS          makes FOLDER/table for FOLDER/policy, if there is none
+ *     keep FOLDER < REQUESTS            decides requests of 28 bytes, a line for each
+ *     keep FOLDER preview < REQUESTS    tells what each would get now, and writes nothing
  *
  * examples/python/keep.py does the same with the same files; both may be at work on one folder.
  */
@@ -50,57 +51,84 @@ static void store(int folder, size_t length)
          renameat(folder, "table.new", folder, "table") == 0 && fsync(folder) == 0, "table.new");
 }
 
+/*
+ * This program alone is at the table until the lock is closed, be it by a crash. The lock is a file of its own:
+ * the table's file is another one after each grant.
+ */
+static int lock_table(int folder)
+{
+    int lock = openat(folder, "lock", O_RDWR | O_CREAT, 0600);
+    need(lock >= 0 && flock(lock, LOCK_EX) == 0, "lock");
+    return lock;
+}
+
 /* Only where there is no table: a fresh one has forgotten everything. */
 static sod_reply make_fresh(int folder, size_t policy_len, size_t blocks)
 {
     size_t length = blocks <= SOD_MOST_TABLE_BLOCKS ? blocks * SOD_BLOCK : sizeof table;
+    int lock = lock_table(folder);
     errno = EEXIST;
     need(faccessat(folder, "table", F_OK, 0) != 0, "table");
     sod_reply reply = sod_fresh_table(policy, policy_len, table, length);
     if (reply.number == 0)
         store(folder, length);
+    close(lock);
     return reply;
 }
 
 static sod_reply decide(int folder, size_t policy_len, const uint8_t *request, size_t request_len)
 {
+    int lock = lock_table(folder);
     size_t length = load(folder, "table", table, sizeof table);
     sod_reply reply = sod_decide(policy, policy_len, table, length, request, request_len);
     if (reply.number == 0)
         store(folder, length);
+    close(lock);
     return reply;
+}
+
+/* Without the lock: the table's file is never altered, only replaced, so that what is read is whole. */
+static sod_reply preview(int folder, size_t policy_len, const uint8_t *request, size_t request_len)
+{
+    size_t length = load(folder, "table", table, sizeof table);
+    return sod_preview(policy, policy_len, table, length, request, request_len);
+}
+
+typedef sod_reply answer(int folder, size_t policy_len, const uint8_t *request, size_t request_len);
+
+static void answer_all(int folder, size_t policy_len, answer *call, const char *would)
+{
+    uint8_t request[SOD_REQUEST];
+    size_t length;
+    while ((length = fread(request, 1, sizeof request, stdin)) > 0) {
+        sod_reply reply = call(folder, policy_len, request, length);
+        if (reply.number == 0) /* a grant is told only once it is stored */
+            printf("%sgrant %u %u %u\n", would, reply.first, reply.second, reply.third);
+        else
+            printf("%srefuse %u %u %u\n", would, reply.number, reply.first, reply.second);
+        fflush(stdout);
+    }
 }
 
 int main(int argc, char **argv)
 {
-    uint8_t request[SOD_REQUEST];
-    size_t length;
     int making = argc == 4 && strcmp(argv[2], "fresh") == 0;
+    int previewing = argc == 3 && strcmp(argv[2], "preview") == 0;
     errno = EINVAL;
-    need(argc == 2 || making, "keep FOLDER [fresh BLOCKS]");
+    need(argc == 2 || making || previewing, "keep FOLDER [fresh BLOCKS | preview]");
     int folder = open(argv[1], O_RDONLY | O_DIRECTORY);
     need(folder >= 0, argv[1]);
-    /* The lock is a file of its own: the table's file is another one after each grant. */
-    int lock = openat(folder, "lock", O_RDWR | O_CREAT, 0600);
-    need(lock >= 0, "lock");
     size_t policy_len = load(folder, "policy", policy, sizeof policy);
 
     if (making) {
-        need(flock(lock, LOCK_EX) == 0, "lock");
         sod_reply reply = make_fresh(folder, policy_len, strtoul(argv[3], NULL, 10));
         if (reply.number != 0)
             fprintf(stderr, "refuse %u %u %u\n", reply.number, reply.first, reply.second);
         return reply.number != 0;
     }
-    while ((length = fread(request, 1, sizeof request, stdin)) > 0) {
-        need(flock(lock, LOCK_EX) == 0, "lock");
-        sod_reply reply = decide(folder, policy_len, request, length);
-        need(flock(lock, LOCK_UN) == 0, "lock");
-        if (reply.number == 0) /* told only once it is stored */
-            printf("grant %u %u %u\n", reply.first, reply.second, reply.third);
-        else
-            printf("refuse %u %u %u\n", reply.number, reply.first, reply.second);
-        fflush(stdout);
-    }
+    if (previewing)
+        answer_all(folder, policy_len, preview, "would ");
+    else
+        answer_all(folder, policy_len, decide, "");
     return 0;
 }

@@ -2,6 +2,8 @@
  * The sample session: prints its fifteen lines, which docs/GUIDE.md goes through one by one.
  *
  *     gcc -Iinclude examples/c/session.c target/staticlib/libsod.a -o target/session && target/session
+ *
+ * With the word `preview` each line stands behind one that tells beforehand what it will be.
  */
 #include <stdio.h>
 #include <string.h>
@@ -169,9 +171,18 @@ static int refused(const char *what, sod_reply reply)
     return reply.number != 0;
 }
 
-int main(void)
+static void print_reply(size_t ordinal, const char *would, sod_reply reply)
+{
+    if (reply.number == 0)
+        printf("%zu %sgrant %u %u %u\n", ordinal, would, reply.first, reply.second, reply.third);
+    else
+        printf("%zu %srefuse %u %u %u\n", ordinal, would, reply.number, reply.first, reply.second);
+}
+
+int main(int argc, char **argv)
 {
     uint8_t policy[3 * SOD_BLOCK], table[SOD_BLOCK], request[SOD_REQUEST];
+    int previewing = argc == 2 && strcmp(argv[1], "preview") == 0;
 
     make_policy(policy);
     if (refused("policy", sod_check_policy(policy, sizeof policy)) ||
@@ -180,12 +191,11 @@ int main(void)
 
     for (size_t i = 0; i < sizeof session / sizeof *session; i++) {
         make_request(request, &session[i]);
-        sod_reply reply = sod_decide(policy, sizeof policy, table, sizeof table,
-                                     request, sizeof request);
-        if (reply.number == 0)
-            printf("%zu grant %u %u %u\n", i + 1, reply.first, reply.second, reply.third);
-        else
-            printf("%zu refuse %u %u %u\n", i + 1, reply.number, reply.first, reply.second);
+        if (previewing) /* for the bench, while the instrument is still boxed: nothing is recorded */
+            print_reply(i + 1, "would ", sod_preview(policy, sizeof policy, table, sizeof table,
+                                                     request, sizeof request));
+        print_reply(i + 1, "", sod_decide(policy, sizeof policy, table, sizeof table,
+                                          request, sizeof request));
     }
     return refused("table", sod_check_table(policy, sizeof policy, table, sizeof table));
 }

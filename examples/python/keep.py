@@ -1,7 +1,8 @@
 """Keeps a policy and its table in a folder, so that no grant is lost: not to a crash, not to a second terminal.
 
-    python3 examples/python/keep.py FOLDER fresh BLOCKS    makes FOLDER/table for FOLDER/policy, if there is none
-    python3 examples/python/keep.py FOLDER < REQUESTS      decides requests of 28 bytes, a line for each
+    python3 examples/python/keep.py FOLDER fresh BLOCKS          makes FOLDER/table for FOLDER/policy, if there is none
+    python3 examples/python/keep.py FOLDER < REQUESTS            decides requests of 28 bytes, a line for each
+    python3 examples/python/keep.py FOLDER preview < REQUESTS    tells what each would get now, and writes nothing
 
 examples/c/keep.c does the same with the same files; both may be at work on one folder.
 """
@@ -52,16 +53,27 @@ def decide(folder, request):
     return grant
 
 
-def main(folder, *words):
-    if words:
-        _, blocks = words
-        fresh(folder, int(blocks))
-        return
+def preview(folder, request):
+    """A Preview, or WouldBeRefused is raised. Without the lock: the table's file is never altered, only replaced."""
+    return sod.preview((folder / "policy").read_bytes(), (folder / "table").read_bytes(), request)
+
+
+def answer_all(folder, call):
     while request := sys.stdin.buffer.read(28):
         try:
-            print(decide(folder, request), flush=True)
+            print(call(folder, request), flush=True)
         except sod.Refused as refusal:
             print(refusal, flush=True)
+
+
+def main(folder, *words):
+    if not words:
+        answer_all(folder, decide)
+    elif words == ("preview",):
+        answer_all(folder, preview)
+    else:
+        _, blocks = words
+        fresh(folder, int(blocks))
 
 
 if __name__ == "__main__":

@@ -1,7 +1,10 @@
 """The sample session: prints its fifteen lines, which docs/GUIDE.md goes through one by one.
 
     python3 examples/python/session.py
+    python3 examples/python/session.py preview    each line behind one that tells beforehand what it will be
 """
+import sys
+
 import images
 import sod
 
@@ -44,15 +47,21 @@ SESSION = [images.request(*asked) for asked in [
 ]]
 
 
-def main():
+def answer(call, table, request):
+    try:
+        return call(POLICY, table, request)
+    except sod.Refused as refusal:
+        return refusal
+
+
+def main(*words):
     table = sod.fresh_table(POLICY, blocks=1)
     for number, request in enumerate(SESSION, 1):
-        try:
-            print(number, sod.decide(POLICY, table, request))
-        except sod.Refused as refusal:
-            print(number, refusal)
+        if words == ("preview",):    # for the bench, while the instrument is still boxed: nothing is recorded
+            print(number, answer(sod.preview, table, request))
+        print(number, answer(sod.decide, table, request))
     assert sod.check_table(POLICY, table) == len(list(images.records(table)))
 
 
 if __name__ == "__main__":
-    main()
+    main(*sys.argv[1:])

@@ -1,8 +1,8 @@
-"""The four calls of the engine, from Python. include/sod.h says what each promises.
+"""The five calls of the engine, from Python. include/sod.h says what each promises.
 
 It loads target/libsod.so, which README.md builds in one command; SOD_LIBRARY in the environment names
 another. A policy and a request are bytes. A table is a bytearray: the engine writes to it, and what cannot
-be written to is a TypeError before the engine is called.
+be written to is a TypeError before the engine is called. Where it is only checked or previewed, bytes will do.
 """
 import ctypes
 import os
@@ -18,6 +18,13 @@ class Grant(namedtuple("Grant", "recorded removed held")):
         return "grant {} {} {}".format(*self)
 
 
+class Preview(namedtuple("Preview", "recorded removed held")):
+    """What a Grant would have, and none itself: nothing is recorded, nothing is reserved."""
+
+    def __str__(self):
+        return "would grant {} {} {}".format(*self)
+
+
 class Refused(Exception):
     """A refusal is raised, so that nobody takes it for a grant."""
 
@@ -29,6 +36,13 @@ class Refused(Exception):
         return f"refuse {self.number} {self.first} {self.second}"
 
 
+class WouldBeRefused(Refused):
+    """Raised by a preview."""
+
+    def __str__(self):
+        return f"would {super().__str__()}"
+
+
 class Reply(ctypes.Structure):
     _fields_ = [(name, ctypes.c_uint32) for name in ("number", "first", "second", "third")]
 
@@ -38,14 +52,15 @@ _library = ctypes.PyDLL(os.environ.get("SOD_LIBRARY", LIBRARY))
 _READ = [ctypes.c_char_p, ctypes.c_size_t]                     # bytes alone fit
 _WRITE = [ctypes.POINTER(ctypes.c_uint8), ctypes.c_size_t]     # bytes do not
 for _name, _types in [("sod_check_policy", _READ), ("sod_check_table", _READ + _READ),
-                      ("sod_fresh_table", _READ + _WRITE), ("sod_decide", _READ + _WRITE + _READ)]:
+                      ("sod_fresh_table", _READ + _WRITE), ("sod_decide", _READ + _WRITE + _READ),
+                      ("sod_preview", _READ + _READ + _READ)]:
     _function = getattr(_library, _name)
     _function.argtypes, _function.restype = _types, Reply
 
 
-def _accepted(reply):
+def _accepted(reply, refused=Refused):
     if reply.number != 0:
-        raise Refused(reply.number, reply.first, reply.second)
+        raise refused(reply.number, reply.first, reply.second)
     return reply
 
 
@@ -76,3 +91,11 @@ def decide(policy, table, request):
     reply = _accepted(_library.sod_decide(policy, len(policy), _writable(table), len(table),
                                           request, len(request)))
     return Grant(reply.first, reply.second, reply.third)
+
+
+def preview(policy, table, request):
+    """What decide would return now, as a Preview; or WouldBeRefused is raised. The table stays as it is."""
+    table = bytes(table)
+    reply = _library.sod_preview(policy, len(policy), table, len(table), request, len(request))
+    reply = _accepted(reply, WouldBeRefused)
+    return Preview(reply.first, reply.second, reply.third)

@@ -1,6 +1,6 @@
 //! Grants, and decisions as the trial program prints them.
 
-use crate::text::{exactly, number_u32, pad};
+use crate::text::{exactly, pad, three};
 use crate::{ParseError, Refusal};
 use std::fmt;
 use std::str::FromStr;
@@ -38,7 +38,7 @@ impl FromStr for Grant {
     type Err = ParseError;
 
     fn from_str(text: &str) -> Result<Grant, ParseError> {
-        let [recorded, removed, held] = three(text, "grant ")?;
+        let [recorded, removed, held] = three(text, "grant ", "grant")?;
         let recorded = recorded != 0;
         let grant = Grant {
             recorded,
@@ -83,21 +83,13 @@ impl FromStr for Line {
     type Err = ParseError;
 
     fn from_str(text: &str) -> Result<Line, ParseError> {
+        const EXPECTED: &str = "grant or refusal";
         if text.starts_with("grant ") {
             return Ok(Line(Ok(text.parse()?)));
         }
-        let [number, first, second] = three(text, "refuse ")?;
+        let [number, first, second] = three(text, "refuse ", EXPECTED)?;
         let refusal = Refusal::of(number, first, second);
-        let refusal = refusal.ok_or_else(|| ParseError::form("grant or refusal", text))?;
-        exactly(Line(Err(refusal)), text, "grant or refusal")
+        let refusal = refusal.ok_or_else(|| ParseError::form(EXPECTED, text))?;
+        exactly(Line(Err(refusal)), text, EXPECTED)
     }
-}
-
-/// Three numbers behind a word.
-fn three(text: &str, word: &str) -> Result<[u32; 3], ParseError> {
-    const EXPECTED: &str = "grant or refusal";
-    let numbers = text.strip_prefix(word).unwrap_or_default().split(' ');
-    let numbers: Result<Vec<u32>, _> = numbers.map(|one| number_u32(one, EXPECTED)).collect();
-    let numbers = numbers.ok().and_then(|numbers| numbers.try_into().ok());
-    numbers.ok_or_else(|| ParseError::form(EXPECTED, text))
 }

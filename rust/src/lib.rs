@@ -11,10 +11,11 @@
 //! * both lie in lent bytes or, as [`PolicyBuf`] and [`TableBuf`], in their own;
 //! * a [`Request`] has numbers of the right lists, and none that no list has;
 //! * a decision is a [`Grant`] or a [`Refusal`], which can be shown in words;
+//! * [`Table::preview`] tells what a decision would be, and gives no grant, but a [`Preview`];
 //! * [`PolicyBuilder`] and [`TableBuilder`] write images;
-//! * requests, policies, grants and refusals can be read from the text that shows them
+//! * requests, policies, grants, previews and refusals can be read from the text that shows them
 //!   ([`ParseError`]);
-//! * [`raw`] has the four calls on any bytes.
+//! * [`raw`] has the five calls on any bytes.
 //!
 //! A call allocates nothing and takes at most 24 KiB of stack, [`STACK`]. Where tables are kept in
 //! files, examples/keep.rs shows how to store them safely.
@@ -133,6 +134,7 @@ mod lint;
 mod numbers;
 mod policy;
 mod policy_builder;
+mod preview;
 mod privilege;
 pub mod raw;
 mod record;
@@ -157,6 +159,7 @@ pub use lint::Warning;
 pub use numbers::{ContextType, ContextValue, Operation, OutOfRange, Role, Target, User};
 pub use policy::{Policy, PolicyBuf};
 pub use policy_builder::PolicyBuilder;
+pub use preview::Preview;
 pub use privilege::Privilege;
 pub use record::{Marks, Record};
 pub use refusal::Refusal;

@@ -1,14 +1,14 @@
-//! The four calls of the engine on bytes, as include/sod.h has them.
+//! The five calls of the engine on bytes, as include/sod.h has them.
 //!
 //! Nothing is assumed of the bytes: whatever they are, each call answers, and a refused one alters
 //! none. A slice has a true length, and the borrow checker keeps a lent table apart from the policy
 //! and the request, so that nothing is left of what the header asks of a C caller.
 //!
-//! C gets four numbers from every call, of which 0 comes first for acceptance as for grant. Here what
-//! passes a check is a count and what is granted is a [`Grant`], so that neither is taken for the
-//! other. Nothing of the four numbers is lost: numbers and places that document 01 does not have
-//! come as [`Refusal::Other`], and a call panics on a reply of any other form, such as a recorded of
-//! 2. The engine is proved to give none of either.
+//! C gets four numbers from every call, of which 0 comes first for acceptance, grant and preview
+//! alike. Here what passes a check is a count, what is granted is a [`Grant`] and what would be is a
+//! [`Preview`], so that none is taken for another. Nothing of the four numbers is lost: numbers and
+//! places that document 01 does not have come as [`Refusal::Other`], and a call panics on a reply of
+//! any other form, such as a recorded of 2. The engine is proved to give none of either.
 //!
 //! No call allocates, and each takes at most 24 KiB of stack ([`STACK`](crate::STACK)), whatever the
 //! bytes: tests/stack.rs runs every one on a stack of that size.
@@ -25,6 +25,7 @@
 //! assert_eq!(raw::fresh_table(&policy, &mut table), Ok(30));
 //! assert_eq!(raw::check_table(&policy, &table), Ok(0));
 //! assert_eq!(raw::decide(&policy, &mut table, &[1; 29]), Err(Refusal::RequestLength));
+//! assert_eq!(raw::preview(&policy, &table, &[1; 28]), Err(Refusal::NotPermitted));
 //! # Ok::<(), hastovimen::BuildError>(())
 //! ```
 //!
@@ -35,10 +36,18 @@
 //!
 //! let granted: Result<Grant, Refusal> = raw::check_policy(&[]);
 //! ```
+//!
+//! Nor is a preview:
+//!
+//! ```compile_fail
+//! use hastovimen::{raw, Grant, Refusal};
+//!
+//! let granted: Result<Grant, Refusal> = raw::preview(&[], &[], &[]);
+//! ```
 
 #![allow(unsafe_code)]
 
-use crate::{Grant, Refusal};
+use crate::{Grant, Preview, Refusal};
 
 /// `sod_reply` of include/sod.h.
 #[repr(C)]
@@ -57,12 +66,27 @@ impl Reply {
     }
 
     fn grant(self) -> Result<Grant, Refusal> {
+        let (recorded, removed, held) = self.judged()?;
+        Ok(Grant {
+            recorded,
+            removed,
+            held,
+        })
+    }
+
+    fn preview(self) -> Result<Preview, Refusal> {
+        let (recorded, removed, held) = self.judged()?;
+        Ok(Preview {
+            recorded,
+            removed,
+            held,
+        })
+    }
+
+    /// Recorded, removed, held: of a grant, or of what would be one.
+    fn judged(self) -> Result<(bool, u32, u32), Refusal> {
         self.read(|reply| {
-            (reply.first <= 1).then_some(Grant {
-                recorded: reply.first == 1,
-                removed: reply.second,
-                held: reply.third,
-            })
+            (reply.first <= 1).then_some((reply.first == 1, reply.second, reply.third))
         })
     }
 
@@ -96,6 +120,14 @@ extern "C" {
         policy: *const u8,
         policy_len: usize,
         table: *mut u8,
+        table_len: usize,
+        request: *const u8,
+        request_len: usize,
+    ) -> Reply;
+    fn sod_preview(
+        policy: *const u8,
+        policy_len: usize,
+        table: *const u8,
         table_len: usize,
         request: *const u8,
         request_len: usize,
@@ -135,6 +167,21 @@ pub fn decide(policy: &[u8], table: &mut [u8], request: &[u8]) -> Result<Grant, 
     reply.grant()
 }
 
+/// Previews a request: what [`decide`] would answer on a copy of the table, or any number.
+pub fn preview(policy: &[u8], table: &[u8], request: &[u8]) -> Result<Preview, Refusal> {
+    let reply = unsafe {
+        sod_preview(
+            policy.as_ptr(),
+            policy.len(),
+            table.as_ptr(),
+            table.len(),
+            request.as_ptr(),
+            request.len(),
+        )
+    };
+    reply.preview()
+}
+
 #[cfg(test)]
 mod tests {
     use super::*;
@@ -164,6 +211,7 @@ mod tests {
                 assert_eq!(sod_check_table(pointer, 0, pointer, 0), refusal(1));
                 assert_eq!(sod_fresh_table(pointer, 0, pointer, 0), refusal(1));
                 assert_eq!(sod_decide(pointer, 0, pointer, 0, pointer, 0), refusal(1));
+                assert_eq!(sod_preview(pointer, 0, pointer, 0, pointer, 0), refusal(1));
             }
         }
         let policy = crate::PolicyBuilder::new().build().unwrap();
@@ -176,6 +224,9 @@ mod tests {
             assert_eq!(sod_decide(p, len, null_mut(), 0, null(), 0), refusal(11));
             let decided = sod_decide(p, len, table.as_mut_ptr(), 512, null(), 0);
             assert_eq!(decided, refusal(21));
+            assert_eq!(sod_preview(p, len, null(), 0, null(), 0), refusal(11));
+            let previewed = sod_preview(p, len, table.as_ptr(), 512, null(), 0);
+            assert_eq!(previewed, refusal(21));
         }
     }
 
@@ -188,17 +239,25 @@ mod tests {
             held: 3,
         };
         assert_eq!(reply(0, 1, 2, 3).grant(), Ok(grant));
+        let preview = Preview {
+            recorded: false,
+            removed: 2,
+            held: 3,
+        };
+        assert_eq!(reply(0, 0, 2, 3).preview(), Ok(preview));
         assert_eq!(refusal(31).grant(), Err(Refusal::NotPermitted));
+        assert_eq!(refusal(31).preview(), Err(Refusal::NotPermitted));
         assert_eq!(refusal(31).count(), Err(Refusal::NotPermitted));
         let strange = reply(31, 1, 0, 0).grant().unwrap_err();
         assert_eq!((strange.number(), strange.places()), (31, (1, 0)));
     }
 
-    /// A grant is never made of what no decision replies.
+    /// Neither a grant nor a preview is ever made of what no decision replies.
     #[test]
     fn replies_that_no_call_gives() {
         for bad in [reply(0, 2, 0, 0), reply(34, 0, 0, 1)] {
             assert!(catch_unwind(|| bad.grant()).is_err());
+            assert!(catch_unwind(|| bad.preview()).is_err());
         }
         for bad in [reply(0, 1, 1, 0), reply(0, 1, 0, 1), reply(1, 0, 0, 1)] {
             assert!(catch_unwind(|| bad.count()).is_err());

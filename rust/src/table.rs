@@ -2,7 +2,7 @@
 
 use crate::bytes::{put_header, seal, u16_at};
 use crate::image::TableImage;
-use crate::{raw, BuildError, Grant, Policy, PolicyBuf, Record, Refusal, Request};
+use crate::{raw, BuildError, Grant, Policy, PolicyBuf, Preview, Record, Refusal, Request};
 use crate::{BLOCK, MOST_TABLE_BLOCKS, RECORDS_PER_BLOCK};
 use std::fmt;
 
@@ -15,8 +15,9 @@ pub(crate) const RECORDS_AT: usize = 24;
 ///
 /// Its buffer is lent by `&mut` ([`Policy::fresh_table`], [`Policy::open_table`]) or its own
 /// ([`Policy::new_table`], [`Policy::own_table`], [`TableBuf`]). It keeps its policy, so that it is
-/// never decided under another one, and it is decided on through `&mut self`, by one thread at a
-/// time. Dropping it gives a lent buffer back, to be stored.
+/// never decided under another one. It is decided on through `&mut self`, by one thread at a time,
+/// and previewed through `&self`, by any number of them. Dropping it gives a lent buffer back, to be
+/// stored.
 ///
 /// ```compile_fail
 /// # use hastovimen::*;
@@ -120,6 +121,67 @@ impl<'p> Table<'p, '_> {
     /// Decides a request that came as bytes, whatever they are.
     pub fn decide_bytes(&mut self, request: &[u8]) -> Result<Grant, Refusal> {
         raw::decide(self.policy.image(), &mut self.image, request)
+    }
+
+    /// What [`decide`](Table::decide) would answer now; the table stays as it is. Any number of
+    /// readers may ask at the same time.
+    ///
+    /// Nothing is recorded and nothing is reserved, so two requests may both have a good preview of
+    /// which only the one that is decided first will be granted:
+    ///
+    /// ```
+    /// use hastovimen::*;
+    ///
+    /// let policy: PolicyBuilder = "\
+    /// rule 1: over 2=!
+    ///   exclusion 1: 2 of privileges 1 on 1, 2 on 1
+    /// role 1 may do 1 on 1
+    /// role 2 may do 2 on 1
+    /// ".parse()?;
+    /// let mut table = Policy::own(policy.build()?)?.new_table(1)?;
+    /// let adjust: Request = "user 7 in role 1: 1 on 1 at 2=90".parse()?;
+    /// let check: Request = "user 7 in role 2: 2 on 1 at 2=90".parse()?;
+    /// std::thread::scope(|desks| {
+    ///     for request in [&adjust, &check] {
+    ///         let table = &table;
+    ///         desks.spawn(move || {
+    ///             let preview = table.preview(request).unwrap();
+    ///             assert_eq!(preview.to_string(), "would grant 1 0 1");
+    ///         });
+    ///     }
+    /// });
+    /// assert_eq!(table.held(), 0);
+    ///
+    /// assert!(table.decide(&adjust)?.recorded);
+    /// let forbidden = Refusal::ExclusivePrivileges { rule: 1, exclusion: 1 };
+    /// assert_eq!(table.preview(&check), Err(forbidden));
+    /// # Ok::<(), Box<dyn std::error::Error>>(())
+    /// ```
+    ///
+    /// A preview does not pass for a grant:
+    ///
+    /// ```compile_fail
+    /// # use hastovimen::*;
+    /// fn too_early(table: &Table, request: &Request) -> Result<Grant, Refusal> {
+    ///     table.preview(request)
+    /// }
+    /// ```
+    ///
+    /// And a reader, who may preview, cannot decide:
+    ///
+    /// ```compile_fail
+    /// # use hastovimen::*;
+    /// fn reader(table: &Table, request: &Request) -> Result<Grant, Refusal> {
+    ///     table.decide(request)
+    /// }
+    /// ```
+    pub fn preview(&self, request: &Request) -> Result<Preview, Refusal> {
+        self.preview_bytes(&request.to_bytes())
+    }
+
+    /// Previews a request that came as bytes, whatever they are.
+    pub fn preview_bytes(&self, request: &[u8]) -> Result<Preview, Refusal> {
+        raw::preview(self.policy.image(), &self.image, request)
     }
 
     /// The policy that it stands under.

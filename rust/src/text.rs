@@ -10,8 +10,8 @@ use std::str::FromStr;
 /// A text that does not show what was asked for.
 ///
 /// Numbers, privileges, contexts, requests, records, rules, whole policies (by
-/// [`PolicyBuilder`](crate::PolicyBuilder)), grants and refusals are read from the text that shows
-/// them, and from no other.
+/// [`PolicyBuilder`](crate::PolicyBuilder)), grants, previews and refusals are read from the text
+/// that shows them, and from no other.
 ///
 /// ```
 /// use hastovimen::{BuildError, Exclusion, ParseError, Role};
@@ -134,6 +134,18 @@ pub(crate) fn number(text: &str, expected: &'static str) -> Result<u64, ParseErr
 pub(crate) fn number_u32(text: &str, expected: &'static str) -> Result<u32, ParseError> {
     let number = number(text, expected)?;
     u32::try_from(number).map_err(|_| ParseError::form(expected, text))
+}
+
+/// Three numbers behind a word.
+pub(crate) fn three(
+    text: &str,
+    word: &str,
+    expected: &'static str,
+) -> Result<[u32; 3], ParseError> {
+    let numbers = text.behind(word, expected)?.split(' ');
+    let numbers: Result<Vec<u32>, _> = numbers.map(|one| number_u32(one, expected)).collect();
+    let numbers = numbers.ok().and_then(|numbers| numbers.try_into().ok());
+    numbers.ok_or_else(|| ParseError::form(expected, text))
 }
 
 /// A list with commas.

@@ -1,9 +1,11 @@
-//! include/sod.h, read as text: each of its numbers and sizes is that of a constant in Rust.
+//! include/sod.h, read as text: each of its numbers and sizes is that of a constant in Rust, and each
+//! of its functions is declared there alike.
 
 use hastovimen::*;
 use std::collections::BTreeMap;
 
 const HEADER: &str = include_str!("../../include/sod.h");
+const RAW: &str = include_str!("../src/raw.rs");
 
 /// What the header defines, by name: `#define SOD_NAME value` and `SOD_NAME = value` in an enum.
 fn defined() -> BTreeMap<String, String> {
@@ -98,4 +100,48 @@ fn numbers_and_sizes() {
         );
     }
     assert!(here.is_empty(), "the header lacks {here:?}");
+}
+
+/// The functions of a text that has each of them behind a word: its name, and its parameters.
+fn functions<'t>(text: &'t str, word: &str) -> BTreeMap<&'t str, Vec<&'t str>> {
+    let functions = text.split(word).skip(1).map(|rest| {
+        let (name, rest) = rest.split_once('(').expect("a name");
+        let (list, _) = rest.split_once(')').expect("its parameters");
+        let parameters = list.split(',').map(str::trim);
+        (name, parameters.filter(|one| !one.is_empty()).collect())
+    });
+    functions.collect()
+}
+
+/// A parameter of C, as Rust declares it.
+fn in_rust(parameter: &str) -> String {
+    let types = [
+        ("const uint8_t *", "*const u8"),
+        ("uint8_t *", "*mut u8"),
+        ("size_t ", "usize"),
+    ];
+    let found = types.iter().find_map(|(of_c, of_rust)| {
+        let name = parameter.strip_prefix(of_c)?;
+        Some(format!("{name}: {of_rust}"))
+    });
+    found.expect(parameter)
+}
+
+/// Names, order, and what is lent to be written: a `const` that one of the two lacks would show.
+#[test]
+fn functions_and_parameters() {
+    let header = without_comments(HEADER);
+    let (_, raw) = RAW.split_once("extern \"C\" {").expect("declarations");
+    let (raw, _) = raw.split_once("\n}").expect("their end");
+    let raw = functions(raw, "fn ");
+    let header = functions(&header, "sod_reply ");
+    assert_eq!(header.len(), 5);
+    assert_eq!(
+        header.keys().collect::<Vec<_>>(),
+        raw.keys().collect::<Vec<_>>()
+    );
+    for (name, parameters) in header {
+        let parameters: Vec<String> = parameters.into_iter().map(in_rust).collect();
+        assert_eq!(parameters, raw[name], "{name}");
+    }
 }

@@ -6,6 +6,7 @@ mod support;
 use hastovimen::*;
 use independent::images;
 use std::collections::HashSet;
+use std::sync::RwLock;
 use support::chance::Chance;
 use support::world::World;
 use support::wrapped::request;
@@ -35,8 +36,9 @@ fn lent_and_owned_alike() {
         kept_anywhere(&policy);
         for i in 0..60 {
             let asked = request(&world.request(&mut chance));
-            let decided = table.decide(&asked);
             let first = kept.tables.len() - 1;
+            assert_eq!(kept.tables[first].preview(&asked), table.preview(&asked));
+            let decided = table.decide(&asked);
             assert_eq!(kept.tables[first].decide(&asked), decided);
             assert_eq!(kept.tables[first].image(), table.image());
             if i % 20 == 10 {
@@ -51,6 +53,41 @@ fn lent_and_owned_alike() {
         assert_eq!(owned.into_image(), image);
         assert_eq!(buffer, image);
     }
+}
+
+/// A table behind a lock: readers preview it together, a writer decides in between, and no preview
+/// is of a table older than the one before it.
+#[test]
+fn readers_and_a_writer() {
+    let step = Operation::of(1).on(Target::of(1));
+    let twice = Exclusion::of_privileges(2, &[step, step]).unwrap();
+    let policy = PolicyBuilder::new()
+        .rule(Rule::over([]).exclude(twice))
+        .permit(Role::of(1), step);
+    let policy = Policy::own(policy.build().unwrap()).unwrap();
+    let table = RwLock::new(policy.new_table(8).unwrap());
+    let by = |user| Request::new(User::of(user), Role::of(1), step, []);
+    std::thread::scope(|scope| {
+        for _ in 0..3 {
+            scope.spawn(|| {
+                let mut last = 0;
+                for _ in 0..100 {
+                    let preview = table.read().unwrap().preview(&by(1_000)).unwrap();
+                    assert!(preview.recorded && preview.held > 0 && preview.held >= last);
+                    last = preview.held;
+                }
+            });
+        }
+        scope.spawn(|| {
+            for user in 1..=100 {
+                let granted = table.write().unwrap().decide(&by(user)).unwrap();
+                assert_eq!(granted.held, user);
+            }
+        });
+    });
+    let table = table.into_inner().unwrap();
+    assert_eq!(table.preview(&by(1_000)).unwrap().held, 101);
+    assert_eq!(table.held(), 100);
 }
 
 /// A table is opened only under the policy that it was made under.

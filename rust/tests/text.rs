@@ -144,9 +144,18 @@ fn requests() {
     assert!(altered.not_read > 1_000, "{} not read", altered.not_read);
 }
 
+/// The preview that such a grant has had.
+fn foreseen(grant: Grant) -> Preview {
+    Preview {
+        recorded: grant.recorded,
+        removed: grant.removed,
+        held: grant.held,
+    }
+}
+
 /// All answers of lists by chance, and one refusal of each number.
 #[test]
-fn grants_and_refusals() {
+fn grants_previews_and_refusals() {
     let mut chance = Chance::new(13);
     let mut altered = Altered::default();
     let mut try_out = |chance: &mut Chance, line: Line| {
@@ -156,6 +165,9 @@ fn grants_and_refusals() {
             Ok(grant) => {
                 altered.try_out(chance, &grant);
                 as_its_text(&grant);
+                let preview = foreseen(grant);
+                altered.try_out(chance, &preview);
+                as_its_text(&preview);
             }
             Err(refusal) => {
                 altered.try_out(chance, &refusal);
@@ -262,12 +274,16 @@ fn policies_that_are_not_read() {
 #[test]
 fn answers_that_are_not_read() {
     form::<Grant>(&["grant 2 0 1", "grant 1 0", "grant 1 0 1 0", "grant  1 0 1"]);
-    form::<Grant>(&["refuse 33 1 1"]);
+    form::<Grant>(&["refuse 33 1 1", "would grant 1 0 1"]);
+    form::<Preview>(&["would grant 2 0 1", "would grant 1 0", "would  grant 1 0 1"]);
+    form::<Preview>(&["grant 1 0 1", "would refuse 33 1 1"]);
     let bad = [
         "refuse 0 0 0",
         "refuse 33 1",
         "refused 33 1 1",
         "31: no active role",
+        "would grant 1 0 1",
+        "would refuse 33 1 1",
     ];
     form::<Line>(&bad);
     form::<Refusal>(&bad);

@@ -5,6 +5,7 @@ mod support;
 
 use hastovimen::*;
 use independent::images;
+use std::collections::BTreeMap;
 use support::chance::Chance;
 use support::world::World;
 use support::wrapped::{build, privilege, request, role, rule};
@@ -222,6 +223,67 @@ fn numbers() {
     assert_eq!(error.to_string(), "33 is no role: they run from 1 to 32");
     assert_eq!(Request::read(&[1; 27]), Err(Refusal::RequestLength));
     assert_eq!(Request::read(&[0; 28]), Err(Refusal::RequestField));
+}
+
+/// A preview through the wrapper is that of the bytes, and has the numbers that the decision then
+/// has; the table stays as it was.
+#[test]
+fn previews() {
+    let mut chance = Chance::new(3);
+    let mut seen: BTreeMap<u32, usize> = BTreeMap::new();
+    for _ in 0..300 {
+        let world = World::small(&mut chance);
+        let policy = Policy::check(&world.image).unwrap();
+        let mut table = policy.new_table(1).unwrap();
+        for _ in 0..50 {
+            let asked = request(&world.request(&mut chance));
+            let before = table.image().to_vec();
+            let preview = table.preview(&asked);
+            assert_eq!(table.preview_bytes(&asked.to_bytes()), preview);
+            let raw = raw::preview(&world.image, &before, &asked.to_bytes());
+            assert_eq!(raw, preview);
+            assert!(table.image() == before, "the table was altered");
+            let numbers = preview.map(|would| (would.recorded, would.removed, would.held));
+            let decided = table.decide(&asked);
+            assert_eq!(
+                numbers,
+                decided.map(|grant| (grant.recorded, grant.removed, grant.held))
+            );
+            let number = decided.map_or_else(|refusal| refusal.number(), |_| 0);
+            *seen.entry(number).or_default() += 1;
+        }
+        assert_eq!(table.preview_bytes(&[1; 27]), Err(Refusal::RequestLength));
+        assert_eq!(table.preview_bytes(&[0; 28]), Err(Refusal::RequestField));
+    }
+    for number in [0, 31, 32, 33, 34] {
+        let times = seen.get(&number).copied().unwrap_or(0);
+        assert!(times > 50, "{number}: {times} times");
+    }
+}
+
+/// Many threads preview one full table at the same time, and each gets what one alone gets.
+#[test]
+fn readers_at_once() {
+    let mut chance = Chance::new(4);
+    let world = World::small(&mut chance);
+    let records = world.records(&mut chance, images::places(128));
+    let image = images::write_table(world.stamp(), &records, 128);
+    let policy = Policy::check(&world.image).unwrap();
+    let table = policy.own_table(image.clone()).unwrap();
+    let requests: Vec<Request> = (0..200)
+        .map(|_| request(&world.request(&mut chance)))
+        .collect();
+    let alone: Vec<_> = requests.iter().map(|one| table.preview(one)).collect();
+    std::thread::scope(|scope| {
+        for _ in 0..4 {
+            scope.spawn(|| {
+                for (request, expected) in requests.iter().zip(&alone) {
+                    assert_eq!(table.preview(request), *expected);
+                }
+            });
+        }
+    });
+    assert!(table.image() == image, "the table was altered");
 }
 
 /// A table can be decided on in another thread, and its policy can be shared.

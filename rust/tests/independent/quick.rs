@@ -45,6 +45,11 @@ pub fn decide(policy: &[u8], table: &mut [u8], request: &[u8]) -> Reply {
     }
 }
 
+/// For now on a copy; its own way comes.
+pub fn preview(policy: &[u8], table: &[u8], request: &[u8]) -> Reply {
+    decide(policy, &mut table.to_vec(), request)
+}
+
 // ---------------------------------------------------------------------------------------------
 // Words and sums
 

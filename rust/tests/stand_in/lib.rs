@@ -1,4 +1,4 @@
-//! The four C functions of include/sod.h from the independent judge, so that wrapper, examples and
+//! The five C functions of include/sod.h from the independent judge, so that wrapper, examples and
 //! tests can be tried where the engine's archive is not at hand. That judge is tested, not proved.
 
 #[path = "../independent/mod.rs"]
@@ -81,6 +81,23 @@ unsafe extern "C" fn sod_decide(
     quick::decide(
         lent(policy, policy_len),
         lent_mut(table, table_len),
+        lent(request, request_len),
+    )
+    .into()
+}
+
+#[no_mangle]
+unsafe extern "C" fn sod_preview(
+    policy: *const u8,
+    policy_len: usize,
+    table: *const u8,
+    table_len: usize,
+    request: *const u8,
+    request_len: usize,
+) -> Reply {
+    quick::preview(
+        lent(policy, policy_len),
+        lent(table, table_len),
         lent(request, request_len),
     )
     .into()
