@@ -476,7 +476,9 @@ fn previewed(policy: &[u8], table: &[u8], request: &[u8]) -> Answer<Reply> {
     step.grant(table.as_chunks().0)
 }
 
-/// The numbers of table and request, and steps 1 to 3.
+/// The numbers of table and request, and steps 1 to 3. It is built into both callers: as a function
+/// of its own it made a decision on a full table take 6 % longer.
+#[inline(always)]
 fn judge<'s>(policy: &'s Policy, table: &[u8], request: &'s [u8]) -> Answer<Step<'s>> {
     let held = count_records(policy, table)?;
     let bytes: Option<&[u8; 28]> = request.try_into().ok();
