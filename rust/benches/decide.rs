@@ -13,6 +13,8 @@
 //!     SOD_BEFORE=/path/to/libsod.so cargo bench --offline
 //!
 //! measures an earlier engine, as a shared library, in the same rounds.
+//!
+//! Each decision is then measured as a preview, with the decision itself in the same rounds.
 
 #[path = "../tests/support/chance.rs"]
 #[allow(dead_code)]
@@ -33,54 +35,53 @@ use std::time::Instant;
 
 fn main() {
     let typical = Typical::new();
+    let mut workloads = typical.workloads();
+    workloads.extend(worst_workloads());
+    // `cargo bench --offline -- WORD` measures only the workloads that have the word in their name.
+    let word = std::env::args().skip(1).find(|a| !a.starts_with("--"));
+    if let Some(word) = &word {
+        workloads.retain(|workload| workload.name.contains(word));
+    }
+    let before = Earlier::load().map(Beside::Earlier);
+    println!("Median time of one call in microseconds; the last columns are ratios.\n");
+    table(&workloads, &before);
+    println!("\nPreviews, beside the engine's decision with the same answer.\n");
+    let previews: Vec<Workload> = workloads.iter().filter_map(Workload::preview).collect();
+    table(&previews, &Some(Beside::Decision));
+    if word.is_none() {
+        println!("\nGrowth: a refusal by 33 on a full table, by its blocks.\n");
+        table(&typical.growth(), &before);
+    }
+}
+
+fn worst_workloads() -> Vec<Workload> {
     let alike = Kind {
         name: "worst",
         roles: |_| 0x7F,
         operation: |i| 1 + i as u16 % DONE,
         marks: |_| u32::MAX,
     };
-    let worst = Worst::new(&alike);
     // No two records have the same active roles, privilege or marks.
-    let roles = Worst::new(&Kind {
+    let roles = Kind {
         name: "roles",
         roles: |i| 0x7F | (i as u32) << 16,
         ..alike
-    });
-    let privileges = Worst::new(&Kind {
+    };
+    let privileges = Kind {
         name: "privileges",
         operation: other,
         ..alike
-    });
+    };
     // Here rule 1 has no mark at all, so that no role was ever active under all rules.
-    let marks = Worst::new(&Kind {
+    let marks = Kind {
         name: "marks",
         marks: |i| 0xFFFF_FFFE ^ (i as u32) << 8,
         ..alike
-    });
-    let before = Earlier::load();
-    println!("Median time of one call in microseconds; the last columns are ratios.\n");
-    heading(&before);
-    let workloads = [
-        typical.workloads(),
-        worst.workloads(),
-        roles.workloads(),
-        privileges.workloads(),
-        marks.workloads(),
-    ];
-    // `cargo bench --offline -- WORD` measures only the workloads that have the word in their name.
-    let word = std::env::args().skip(1).find(|a| !a.starts_with("--"));
-    let chosen = |w: &&Workload| word.as_ref().is_none_or(|word| w.name.contains(word));
-    for workload in workloads.iter().flatten().filter(chosen) {
-        row(workload, &before);
-    }
-    if word.is_some() {
-        return;
-    }
-    println!("\nGrowth: a refusal by 33 on a full table, by its blocks.\n");
-    heading(&before);
-    for workload in typical.growth() {
-        row(&workload, &before);
-    }
+    };
+    let kinds = [alike, roles, privileges, marks];
+    (kinds.iter())
+        .flat_map(|kind| Worst::new(kind).workloads())
+        .collect()
 }
 
 /// The operation of record i, where all are different.
@@ -91,31 +92,34 @@ fn other(i: usize) -> u16 {
     }
 }
 
-fn heading(before: &Option<Earlier>) {
+fn table(workloads: &[Workload], beside: &Option<Beside>) {
+    heading(beside);
+    for workload in workloads {
+        row(workload, beside);
+    }
+}
+
+fn heading(beside: &Option<Beside>) {
     print!(
         "| {:<45} | {:>8} | {:>8} | {:>8} | {:>11} | {:>11} | {:>9} |",
         "workload", "engine", "Rust", "sums", "engine/Rust", "engine/sums", "Rust/sums"
     );
-    println!(
-        "{}",
-        before
-            .as_ref()
-            .map_or("", |_| "   before | engine/before |")
-    );
+    if let Some(beside) = beside {
+        let name = beside.name();
+        print!(" {name:>8} | engine/{name} |");
+    }
     print!(
-        "|{:-<47}|{:->10}|{:->10}|{:->10}|{:->13}|{:->13}|{:->11}|",
+        "\n|{:-<47}|{:->10}|{:->10}|{:->10}|{:->13}|{:->13}|{:->11}|",
         "", ":", ":", ":", ":", ":", ":"
     );
-    println!(
-        "{}",
-        before
-            .as_ref()
-            .map_or("", |_| "---------:|--------------:|")
-    );
+    if beside.is_some() {
+        print!("{:->10}|{:->15}|", ":", ":");
+    }
+    println!();
 }
 
-fn row(workload: &Workload, before: &Option<Earlier>) {
-    let [engine, rust, sums, earlier] = workload.measure(before);
+fn row(workload: &Workload, beside: &Option<Beside>) {
+    let [engine, rust, sums, other] = workload.measure(beside);
     print!(
         "| {:<45} | {:>8.2} | {:>8.2} | {:>8.2} | {:>11.2} | {:>11.2} | {:>9.2} |",
         workload.name,
@@ -126,8 +130,8 @@ fn row(workload: &Workload, before: &Option<Earlier>) {
         engine / sums,
         rust / sums
     );
-    if before.is_some() {
-        print!(" {earlier:>8.2} | {:>13.3} |", engine / earlier);
+    if beside.is_some() {
+        print!(" {other:>8.2} | {:>13.3} |", engine / other);
     }
     println!();
 }
@@ -141,8 +145,27 @@ enum Call {
     CheckTable,
     FreshTable,
     Decide,
+    Preview,
 }
 
+/// What else is measured in the same rounds.
+enum Beside {
+    /// The same call of an earlier engine, which need not have a preview.
+    Earlier(Earlier),
+    /// The engine's decision of the same request.
+    Decision,
+}
+
+impl Beside {
+    fn name(&self) -> &'static str {
+        match self {
+            Beside::Earlier(_) => "before",
+            Beside::Decision => "decide",
+        }
+    }
+}
+
+#[derive(Clone)]
 struct Workload {
     name: String,
     call: Call,
@@ -156,8 +179,16 @@ struct Workload {
 const ROUNDS: usize = 301;
 
 impl Workload {
-    /// Microseconds for engine, Rust, sums, and the earlier engine if there is one.
-    fn measure(&self, before: &Option<Earlier>) -> [f64; 4] {
+    /// The preview of what is decided here.
+    fn preview(&self) -> Option<Workload> {
+        (self.call == Call::Decide).then(|| Workload {
+            call: Call::Preview,
+            ..self.clone()
+        })
+    }
+
+    /// Microseconds for engine, Rust, sums, and what stands beside them if there is something.
+    fn measure(&self, beside: &Option<Beside>) -> [f64; 4] {
         self.agree();
         // As many copies as stay in the caches near the processor.
         let copies = (256 * 1024 / (self.table.len() + 1)).clamp(1, 64);
@@ -167,9 +198,12 @@ impl Workload {
             times[0].push(self.time(&mut tables, |w, table| w.by_engine(table)));
             times[1].push(self.time(&mut tables, |w, table| w.by_rust(table)));
             times[2].push(self.time(&mut tables, |w, table| w.by_sums(table)));
-            times[3].push(match before {
+            times[3].push(match beside {
                 None => 0.0,
-                Some(earlier) => self.time(&mut tables, |w, table| w.by_earlier(earlier, table)),
+                Some(Beside::Earlier(engine)) => {
+                    self.time(&mut tables, |w, table| w.by_earlier(engine, table))
+                }
+                Some(Beside::Decision) => self.time(&mut tables, |w, table| w.decided(table)),
             });
         }
         times.map(median)
@@ -193,7 +227,12 @@ impl Workload {
             Call::CheckTable => earlier.check_table(&self.policy, table),
             Call::FreshTable => earlier.fresh_table(&self.policy, table),
             Call::Decide => earlier.decide(&self.policy, table, &self.request),
+            Call::Preview => unreachable!("an earlier engine is not asked for it"),
         }
+    }
+
+    fn decided(&self, table: &mut [u8]) -> Reply {
+        plain::grant(raw::decide(&self.policy, table, &self.request))
     }
 
     fn by_engine(&self, table: &mut [u8]) -> Reply {
@@ -201,7 +240,8 @@ impl Workload {
             Call::CheckPolicy => plain::count(raw::check_policy(&self.policy)),
             Call::CheckTable => plain::count(raw::check_table(&self.policy, table)),
             Call::FreshTable => plain::count(raw::fresh_table(&self.policy, table)),
-            Call::Decide => plain::grant(raw::decide(&self.policy, table, &self.request)),
+            Call::Decide => self.decided(table),
+            Call::Preview => plain::preview(raw::preview(&self.policy, table, &self.request)),
         }
     }
 
@@ -211,6 +251,7 @@ impl Workload {
             Call::CheckTable => quick::check_table(&self.policy, table),
             Call::FreshTable => quick::fresh_table(&self.policy, table),
             Call::Decide => quick::decide(&self.policy, table, &self.request),
+            Call::Preview => quick::preview(&self.policy, table, &self.request),
         }
     }
 

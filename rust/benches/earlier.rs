@@ -18,7 +18,7 @@ type CheckTable = unsafe extern "C" fn(*const u8, usize, *const u8, usize) -> Re
 type FreshTable = unsafe extern "C" fn(*const u8, usize, *mut u8, usize) -> Reply;
 type Decide = unsafe extern "C" fn(*const u8, usize, *mut u8, usize, *const u8, usize) -> Reply;
 
-/// The four calls of that engine.
+/// The calls that every earlier engine has.
 pub struct Earlier {
     check_policy: CheckPolicy,
     check_table: CheckTable,
@@ -56,7 +56,7 @@ impl Earlier {
         }
     }
 
-    // SAFETY, of all four: each pointer and length are those of one live slice, and what is written is borrowed mutably.
+    // SAFETY, of all: each pointer and length are those of one live slice, and what is written is borrowed mutably.
 
     pub fn check_policy(&self, policy: &[u8]) -> Reply {
         unsafe { (self.check_policy)(policy.as_ptr(), policy.len()) }

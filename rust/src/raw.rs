@@ -222,9 +222,9 @@ mod tests {
             assert_eq!(sod_check_table(p, len, null(), 0), refusal(11));
             assert_eq!(sod_fresh_table(p, len, null_mut(), 0), refusal(11));
             assert_eq!(sod_decide(p, len, null_mut(), 0, null(), 0), refusal(11));
+            assert_eq!(sod_preview(p, len, null(), 0, null(), 0), refusal(11));
             let decided = sod_decide(p, len, table.as_mut_ptr(), 512, null(), 0);
             assert_eq!(decided, refusal(21));
-            assert_eq!(sod_preview(p, len, null(), 0, null(), 0), refusal(11));
             let previewed = sod_preview(p, len, table.as_ptr(), 512, null(), 0);
             assert_eq!(previewed, refusal(21));
         }

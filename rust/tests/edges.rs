@@ -6,10 +6,13 @@
 mod independent;
 mod support;
 
+use hastovimen::raw;
 use independent::images::*;
 use independent::register::Register;
 use independent::Reply;
 use support::compare::Comparing;
+use support::lent::Lent;
+use support::plain;
 
 fn refuse(number: usize, first: usize, second: usize) -> Reply {
     Reply::refuse(number, first, second)
@@ -101,17 +104,19 @@ fn policy_gets(comparing: &mut Comparing, policy: &[u8], expected: Reply) {
         let request = write_request(&request());
         assert_eq!(comparing.check_table(policy, &table), expected);
         assert_eq!(comparing.fresh_table(policy, &mut table), expected);
+        assert_eq!(comparing.preview(policy, &table, &request), expected);
         assert_eq!(comparing.decide(policy, &mut table, &request), expected);
     }
 }
 
-/// Asks both calls that read a table for the same answer.
+/// Asks the calls that read a table for the same answer.
 fn table_gets(comparing: &mut Comparing, table: &[u8], expected: Reply) {
     let policy = write_policy(&policy());
     assert_eq!(comparing.check_table(&policy, table), expected);
     if expected.is_refusal() {
         // The table's numbers come before the request's.
         for request in [&write_request(&request())[..], &[]] {
+            assert_eq!(comparing.preview(&policy, table, request), expected);
             let mut table = table.to_vec();
             assert_eq!(comparing.decide(&policy, &mut table, request), expected);
         }
@@ -461,6 +466,7 @@ fn requests() {
     let policy = write_policy(&policy());
     let fresh = write_table(sums(&policy), &[], 1);
     let mut gets = |request: &[u8], expected: Reply| {
+        assert_eq!(comparing.preview(&policy, &fresh, request), expected);
         let mut table = fresh.clone();
         assert_eq!(comparing.decide(&policy, &mut table, request), expected);
         let mut register = Register::new(&policy, 1);
@@ -504,11 +510,53 @@ fn requests() {
     gets(&request, refuse(31, 0, 0));
 }
 
+/// A policy, its table from the fresh one on, and the register that goes along.
+struct Session {
+    comparing: Comparing,
+    policy: Vec<u8>,
+    table: Vec<u8>,
+    register: Register,
+}
+
+impl Session {
+    /// With a table of one block.
+    fn new(policy: &Policy) -> Session {
+        let policy = write_policy(policy);
+        Session {
+            comparing: Comparing::new(),
+            table: write_table(sums(&policy), &[], 1),
+            register: Register::new(&policy, 1),
+            policy,
+        }
+    }
+
+    /// A preview gets this answer, also where nothing may be written to.
+    fn foresees(&mut self, request: &Request, expected: Reply) {
+        let request = &write_request(request);
+        let reply = self.comparing.preview(&self.policy, &self.table, request);
+        let registered = self.register.preview(request);
+        assert_eq!((reply, registered), (expected, expected));
+        let [policy, table, request] =
+            [&self.policy[..], &self.table, request].map(Lent::read_only);
+        let reply = raw::preview(policy.bytes(), table.bytes(), request.bytes());
+        assert_eq!(plain::preview(reply), expected);
+    }
+
+    /// A preview and then the decision get this answer; the table is the register's image.
+    fn gets(&mut self, request: &Request, expected: Reply) {
+        self.foresees(request, expected);
+        let request = &write_request(request);
+        let reply = (self.comparing).decide(&self.policy, &mut self.table, request);
+        let registered = self.register.answer(request);
+        assert_eq!((reply, registered), (expected, expected));
+        assert_eq!(self.table, self.register.image());
+    }
+}
+
 /// "15 held in one block and a sixteenth request that would be marked and removes none gives 34, an
 /// unmarked one is granted"; and fullness is tested after clearing.
 #[test]
 fn a_full_table() {
-    let mut comparing = Comparing::new();
     let [work, close] = [privilege(1, 1), privilege(2, 1)];
     let unlikely = privileges(2, &[privilege(9, 9), privilege(9, 9)]);
     let rule = |levels, last| Rule {
@@ -518,28 +566,20 @@ fn a_full_table() {
         exclusions: vec![unlikely.clone()],
     };
     let may = |privilege| Permission { role: 1, privilege };
-    let policy = write_policy(&Policy {
+    let mut session = Session::new(&Policy {
         rules: vec![
             rule(vec![level(1, Mark::Each)], Some(close)),
             rule(vec![level(1, Mark::Fixed(2))], None),
         ],
         permissions: vec![vec![may(work), may(close)]],
     });
-    let request = |privilege, context: &[(u16, u16)]| {
-        write_request(&Request {
-            user: 7,
-            roles: 1,
-            privilege,
-            context: context.to_vec(),
-        })
+    let request = |privilege, context: &[(u16, u16)]| Request {
+        user: 7,
+        roles: 1,
+        privilege,
+        context: context.to_vec(),
     };
-    let mut table = write_table(sums(&policy), &[], 1);
-    let mut register = Register::new(&policy, 1);
-    let mut gets = |request: [u8; 28], expected: Reply| {
-        let reply = comparing.decide(&policy, &mut table, &request);
-        assert_eq!((reply, register.answer(&request)), (expected, expected));
-        assert_eq!(table, register.image());
-    };
+    let mut gets = |request: Request, expected| session.gets(&request, expected);
     for held in 1..=15 {
         gets(request(work, &[(1, 1)]), Reply::grant(1, 0, held));
     }
@@ -561,7 +601,6 @@ fn a_full_table() {
 /// A full table in which a marked last step makes its own place.
 #[test]
 fn full_until_cleared() {
-    let mut comparing = Comparing::new();
     let [work, close] = [privilege(1, 1), privilege(2, 1)];
     let rule = |first, last| Rule {
         levels: vec![],
@@ -571,26 +610,11 @@ fn full_until_cleared() {
     };
     let may = |privilege| Permission { role: 1, privilege };
     // The last step of rule 1 is the first of rule 2.
-    let policy = write_policy(&Policy {
+    let mut session = Session::new(&Policy {
         rules: vec![rule(None, Some(close)), rule(Some(close), None)],
         permissions: vec![vec![may(work), may(close)]],
     });
-    let request = |privilege| {
-        write_request(&Request {
-            user: 1,
-            roles: 1,
-            privilege,
-            context: vec![],
-        })
-    };
-    let mut table = write_table(sums(&policy), &[], 1);
-    let mut register = Register::new(&policy, 1);
-    let mut gets = |privilege, expected: Reply| {
-        let request = request(privilege);
-        let reply = comparing.decide(&policy, &mut table, &request);
-        assert_eq!((reply, register.answer(&request)), (expected, expected));
-        assert_eq!(table, register.image());
-    };
+    let mut gets = |privilege, expected| session.gets(&of_the_business(privilege), expected);
     for held in 1..=15 {
         gets(work, Reply::grant(1, 0, held));
     }
@@ -601,4 +625,38 @@ fn full_until_cleared() {
         gets(work, Reply::grant(1, 0, held));
     }
     gets(close, refuse(34, 0, 0));
+}
+
+/// A request in the context of no level.
+fn of_the_business(privilege: Privilege) -> Request {
+    Request {
+        user: 1,
+        roles: 1,
+        privilege,
+        context: vec![],
+    }
+}
+
+/// A previewed first step opens no run, and a previewed last step ends none.
+#[test]
+fn previewed_and_not_done() {
+    let [begin, work, end] = [privilege(1, 1), privilege(2, 1), privilege(3, 1)];
+    let may = |privilege| Permission { role: 1, privilege };
+    let mut session = Session::new(&Policy {
+        rules: vec![Rule {
+            levels: vec![],
+            first: Some(begin),
+            last: Some(end),
+            exclusions: vec![roles(2, &[31, 32])],
+        }],
+        permissions: vec![vec![may(begin), may(work), may(end)]],
+    });
+    let [begin, work, end] = [begin, work, end].map(of_the_business);
+    session.foresees(&begin, Reply::grant(1, 0, 1));
+    session.gets(&work, Reply::grant(0, 0, 0));
+    session.gets(&begin, Reply::grant(1, 0, 1));
+    session.foresees(&end, Reply::grant(0, 1, 0));
+    session.gets(&work, Reply::grant(1, 0, 2));
+    session.gets(&end, Reply::grant(0, 2, 0));
+    session.gets(&work, Reply::grant(0, 0, 0));
 }

@@ -1,4 +1,5 @@
-//! Engine, both independent judges and the full register over lists by chance.
+//! Engine, both independent judges and the full register over lists by chance, in which requests are
+//! decided and some of them previewed.
 //!
 //! In a debug build each part but the large lists is a tenth as long.
 //!
@@ -22,7 +23,7 @@ use support::busy::{Busy, Pool, MET};
 use support::chance::Chance;
 use support::compare::*;
 use support::damage::{damage, restamp, telling};
-use support::lists::{shortest, List, Start};
+use support::lists::{shortest, Call, List, Start};
 use support::world::{request_bytes, World};
 
 const SEED: u64 = 2_026;
@@ -68,7 +69,7 @@ fn until(
 // Lists from a fresh table, which the register goes along with
 
 /// A list of so many requests in a world, on a table of so many blocks; of a hundred requests some
-/// are `damaged`. Whether anybody has reached m is asked after every `every`-th request.
+/// are `damaged`. Whether anybody has reached m is asked after every `every`-th grant.
 fn list(
     chance: &mut Chance,
     world: &World,
@@ -90,7 +91,7 @@ fn list(
     List {
         policy: world.image.clone(),
         start,
-        requests,
+        calls: Call::with_previews(chance, requests),
         every,
     }
 }
@@ -118,17 +119,27 @@ fn middling_list(comparing: &mut Comparing, chance: &mut Chance) {
     list(chance, &world, blocks, 24 * blocks, 1, 10).run(comparing);
 }
 
+/// What decisions must have seen so many times; previews, which are fewer, a fifth of that.
+fn both_calls(times: usize) -> [(&'static str, usize); 2] {
+    [("decide", times), ("preview", times / 5)]
+}
+
 fn must_have_seen_in_lists(seen: &Seen, times: usize) {
-    seen.must_refuse("decide", &REQUEST_NUMBERS, times);
-    seen.must_refuse("decide", &JUDGE_NUMBERS, times);
-    seen.must_grant(&KINDS, times);
+    for (call, times) in both_calls(times) {
+        seen.must_refuse(call, &REQUEST_NUMBERS, times);
+        seen.must_refuse(call, &JUDGE_NUMBERS, times);
+        seen.must_grant(call, &KINDS, times);
+    }
+    seen.must_note(&[MAKES_ROOM], times / 25);
 }
 
 /// With 32 rules a table is seldom empty again.
 fn must_have_seen_in_large_lists(seen: &Seen, times: usize) {
-    seen.must_refuse("decide", &REQUEST_NUMBERS, times);
-    seen.must_refuse("decide", &JUDGE_NUMBERS, times);
-    seen.must_grant(&KINDS[3..], times);
+    for (call, times) in both_calls(times) {
+        seen.must_refuse(call, &REQUEST_NUMBERS, times);
+        seen.must_refuse(call, &JUDGE_NUMBERS, times);
+        seen.must_grant(call, &KINDS[3..], times);
+    }
 }
 
 #[test]
@@ -159,7 +170,9 @@ fn large_lists() {
     println!("{}", comparing.seen);
     let mut comparing = Comparing::new();
     until(&mut comparing, "large lists", SEED, 3_000, large_list);
-    comparing.seen.must_refuse("decide", &[34], 20);
+    for (call, times) in both_calls(20) {
+        comparing.seen.must_refuse(call, &[34], times);
+    }
     println!("{}", comparing.seen);
 }
 
@@ -167,11 +180,11 @@ fn large_lists() {
 // Tables that pass the check, but that no list leads to
 
 /// A list on a table that is given.
-fn list_on(policy: &[u8], table: Vec<u8>, requests: Vec<Vec<u8>>) -> List {
+fn list_on(chance: &mut Chance, policy: &[u8], table: Vec<u8>, requests: Vec<Vec<u8>>) -> List {
     List {
         policy: policy.to_vec(),
         start: Start::Given(table),
-        requests,
+        calls: Call::with_previews(chance, requests),
         every: 1,
     }
 }
@@ -190,7 +203,7 @@ fn strange_table(comparing: &mut Comparing, chance: &mut Chance) {
             request_bytes(chance, &request, 2)
         })
         .collect();
-    list_on(&world.image, table, requests).run(comparing);
+    list_on(chance, &world.image, table, requests).run(comparing);
 }
 
 fn strange_large_table(comparing: &mut Comparing, chance: &mut Chance) {
@@ -202,7 +215,7 @@ fn strange_large_table(comparing: &mut Comparing, chance: &mut Chance) {
     let requests = (0..50)
         .map(|_| write_request(&world.request(chance)).to_vec())
         .collect();
-    list_on(&world.image, table, requests).run(comparing);
+    list_on(chance, &world.image, table, requests).run(comparing);
 }
 
 #[test]
@@ -239,13 +252,13 @@ fn busy_table(comparing: &mut Comparing, chance: &mut Chance) {
     let table = write_table(stamp, &busy.records, busy.blocks);
     let accepted = Reply::accept(busy.records.len());
     assert_eq!(comparing.check_table(policy, &table), accepted);
-    let requests: Vec<Request> = (0..chance.from(5, 25))
-        .map(|_| busy.request(chance))
+    let requests = (0..chance.from(5, 25))
+        .map(|_| write_request(&busy.request(chance)).to_vec())
         .collect();
-    let bytes = requests.iter().map(|one| write_request(one).to_vec());
-    list_on(policy, table, bytes.collect()).run_noting(comparing, |seen, table, i| {
-        let records = read_table(&busy.policy, stamp, table, fits);
-        for what in busy.meets(&records.expect("a good table"), &requests[i]) {
+    list_on(chance, policy, table, requests).run_noting(comparing, |seen, table, request| {
+        let records = read_table(&busy.policy, stamp, table, fits).expect("a good table");
+        let request = read_request(request).expect("a good request");
+        for what in busy.meets(&records, &request) {
             seen.note(what);
         }
         seen.note(pool.name());
@@ -253,8 +266,10 @@ fn busy_table(comparing: &mut Comparing, chance: &mut Chance) {
 }
 
 fn must_have_seen_in_busy_tables(seen: &Seen, times: usize) {
-    seen.must_refuse("decide", &[32, 33, 34], 20 * times);
-    seen.must_grant(&KINDS, times);
+    for (call, times) in both_calls(times) {
+        seen.must_refuse(call, &[32, 33, 34], 20 * times);
+        seen.must_grant(call, &KINDS, times);
+    }
     seen.must_note(&Pool::ALL.map(Pool::name), 40 * times);
     seen.must_note(&MET, 2 * times);
 }
@@ -276,12 +291,25 @@ fn many_privileges() {
 // ---------------------------------------------------------------------------------------------
 // Damaged images
 
-/// Puts all four calls to what may be damaged.
+/// Puts all five calls to what may be damaged.
 fn all_calls(comparing: &mut Comparing, policy: &[u8], table: &[u8], request: &[u8]) {
     comparing.check_policy(policy);
     comparing.check_table(policy, table);
     comparing.fresh_table(policy, &mut table.to_vec());
-    comparing.decide(policy, &mut table.to_vec(), request);
+    preview_and_decide(comparing, policy, table, request);
+}
+
+/// The answer of a preview and of the decision after it, on a copy of the table.
+fn preview_and_decide(
+    comparing: &mut Comparing,
+    policy: &[u8],
+    table: &[u8],
+    request: &[u8],
+) -> Reply {
+    let foreseen = comparing.preview(policy, table, request);
+    let reply = comparing.decide(policy, &mut table.to_vec(), request);
+    assert_eq!(foreseen, reply, "the preview");
+    reply
 }
 
 /// A world, a table in use and a request, one or more of them damaged in several ways.
@@ -316,14 +344,17 @@ fn damaged_images(comparing: &mut Comparing, chance: &mut Chance) {
 }
 
 fn must_have_seen_in_damaged_images(seen: &Seen, times: usize) {
-    for call in ["check_policy", "check_table", "fresh_table", "decide"] {
+    for call in ["check_policy", "fresh_table"] {
         seen.must_refuse(call, &POLICY_NUMBERS, times);
     }
-    for call in ["check_table", "decide"] {
+    seen.must_refuse("fresh_table", &[11], times);
+    for call in ["check_table", "decide", "preview"] {
+        seen.must_refuse(call, &POLICY_NUMBERS, times);
         seen.must_refuse(call, &TABLE_NUMBERS, times);
     }
-    seen.must_refuse("fresh_table", &[11], times);
-    seen.must_refuse("decide", &REQUEST_NUMBERS, times);
+    for call in ["decide", "preview"] {
+        seen.must_refuse(call, &REQUEST_NUMBERS, times);
+    }
 }
 
 #[test]
@@ -367,7 +398,7 @@ fn every_byte(comparing: &mut Comparing, chance: &mut Chance) {
         for value in 0..=255 {
             let mut request = request;
             request[at] = value;
-            comparing.decide(&world.image, &mut table.clone(), &request);
+            preview_and_decide(comparing, &world.image, &table, &request);
         }
     }
 }
@@ -377,7 +408,9 @@ fn every_byte_damaged() {
     let mut comparing = Comparing::new();
     until(&mut comparing, "every byte", SEED, full(60_000), every_byte);
     let seen = &comparing.seen;
-    seen.must_refuse("decide", &[2, 3, 4, 5, 6, 12, 13, 14, 15, 22], full(30));
+    for call in ["decide", "preview"] {
+        seen.must_refuse(call, &[2, 3, 4, 5, 6, 12, 13, 14, 15, 22], full(30));
+    }
     println!("{seen}");
 }
 
@@ -405,10 +438,12 @@ fn lengths() {
     for length in 0..100 {
         let mut request = request.to_vec();
         request.resize(length, 0);
-        let reply = comparing.decide(&world.image, &mut table.clone(), &request);
+        let reply = preview_and_decide(&mut comparing, &world.image, &table, &request);
         assert_eq!(reply.number == 21, length != 28);
     }
-    comparing.seen.must_refuse("fresh_table", &[1, 11], 1_000);
+    for call in ["fresh_table", "preview"] {
+        comparing.seen.must_refuse(call, &[1, 11], 1_000);
+    }
 }
 
 /// What is printed of a list that fails ends where it first fails.
@@ -444,12 +479,13 @@ fn long() {
         ("damaged images", 1_000_000, damaged_images),
         ("every byte", 500_000, every_byte),
     ];
-    let mut all = 0;
-    for (part, decisions, one) in parts {
+    let (mut decisions, mut previews) = (0, 0);
+    for (part, enough, one) in parts {
         let mut comparing = Comparing::new();
-        until(&mut comparing, part, seed, decisions * times, one);
+        until(&mut comparing, part, seed, enough * times, one);
         println!("{part}: {}", comparing.seen);
-        all += comparing.seen.decisions;
+        decisions += comparing.seen.decisions;
+        previews += comparing.seen.previews;
         match part {
             "small lists" => must_have_seen_in_lists(&comparing.seen, 10_000 * times),
             "strange tables" => must_have_seen_in_lists(&comparing.seen, 5_000 * times),
@@ -458,5 +494,5 @@ fn long() {
             _ => {}
         }
     }
-    println!("{all} decisions in all, from seed {seed}");
+    println!("{decisions} decisions and {previews} previews in all, from seed {seed}");
 }

@@ -1,5 +1,5 @@
 //! The sample session of document 01: fifteen requests, fifteen lines, from the engine, from both
-//! independent judges and from the register.
+//! independent judges and from the register; and from the preview just before each request.
 
 mod independent;
 mod support;
@@ -116,9 +116,11 @@ fn fifteen_lines() {
     let mut lines = LINES.lines();
     for (i, asked) in SESSION.iter().enumerate() {
         let request = request(asked);
+        let previewed = comparing.preview(&policy, &table, &request);
         let decided = comparing.decide(&policy, &mut table, &request);
         let registered = register.answer(&request);
         let expected = lines.next().unwrap();
+        assert_eq!(line(i + 1, previewed), expected);
         assert_eq!(line(i + 1, decided), expected);
         assert_eq!(line(i + 1, registered), expected);
         assert_eq!(table, register.image(), "after {expected}");

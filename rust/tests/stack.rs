@@ -76,6 +76,7 @@ enum Call {
     CheckTable,
     FreshTable,
     Decide,
+    Preview,
 }
 
 /// Runs on the small stack: nothing but the call.
@@ -87,6 +88,7 @@ extern "C" fn start() {
         Call::CheckTable => plain::count(raw::check_table(&lent.policy, &lent.table)),
         Call::FreshTable => plain::count(raw::fresh_table(&lent.policy, &mut lent.table)),
         Call::Decide => plain::grant(raw::decide(&lent.policy, &mut lent.table, &lent.request)),
+        Call::Preview => plain::preview(raw::preview(&lent.policy, &lent.table, &lent.request)),
     });
 }
 
@@ -185,12 +187,14 @@ fn every_call_on_a_small_stack() {
             gets(Call::CheckPolicy, 1, Reply::accept(32));
             gets(Call::CheckTable, 1, Reply::accept(held));
             gets(Call::FreshTable, 1, Reply::accept(places(blocks)));
-            gets(Call::Decide, 4, Reply::refuse(31, 0, 0));
-            gets(Call::Decide, 2, Reply::grant(0, held, 0));
-            if held == places(blocks) {
-                gets(Call::Decide, 1, Reply::refuse(34, 0, 0));
-            } else {
-                gets(Call::Decide, 1, Reply::grant(1, 0, held + 1));
+            for call in [Call::Decide, Call::Preview] {
+                gets(call, 4, Reply::refuse(31, 0, 0));
+                gets(call, 2, Reply::grant(0, held, 0));
+                if held == places(blocks) {
+                    gets(call, 1, Reply::refuse(34, 0, 0));
+                } else {
+                    gets(call, 1, Reply::grant(1, 0, held + 1));
+                }
             }
         }
     }

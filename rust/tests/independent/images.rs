@@ -99,8 +99,8 @@ fn all_zero(bytes: &[u8]) -> bool {
 /// The two sums of document 01 over the words of `bytes`.
 pub fn sums(bytes: &[u8]) -> (u32, u32) {
     let (mut a, mut b) = (1u32, 0u32);
-    for at in (0..bytes.len()).step_by(4) {
-        a = a.wrapping_add(u32_at(bytes, at));
+    for word in bytes.chunks_exact(4) {
+        a = a.wrapping_add(u32_at(word, 0));
         b = b.wrapping_add(a);
     }
     (a, b)

@@ -214,6 +214,12 @@ pub fn decide(policy: &[u8], table: &mut [u8], request: &[u8]) -> Reply {
     }
 }
 
+/// "It returns what the decision would return on a copy of the table, and the lent table is
+/// unaltered."
+pub fn preview(policy: &[u8], table: &[u8], request: &[u8]) -> Reply {
+    decide(policy, &mut table.to_vec(), request)
+}
+
 /// A grant and the table's image after it.
 fn decided(policy: &[u8], table: &[u8], request: &[u8]) -> Answer<(Reply, Vec<u8>)> {
     let read = read_policy(policy)?;

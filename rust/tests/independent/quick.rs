@@ -1,4 +1,4 @@
-//! The judge on the bytes themselves: nothing is allocated, a table is altered in place.
+//! The judge on the bytes themselves: nothing is allocated or copied, a table is altered in place.
 //!
 //! This is what somebody writes who knows document 01 and wants it to be quick. It has its own
 //! reading of every field and uses nothing of [`super::images`] or [`super::judge`].
@@ -39,15 +39,17 @@ pub fn fresh_table(policy: &[u8], table: &mut [u8]) -> Reply {
 }
 
 pub fn decide(policy: &[u8], table: &mut [u8], request: &[u8]) -> Reply {
-    match judge(policy, table, request) {
+    match decided(policy, table, request) {
         Ok(grant) => grant,
         Err(refusal) => refusal,
     }
 }
 
-/// For now on a copy; its own way comes.
 pub fn preview(policy: &[u8], table: &[u8], request: &[u8]) -> Reply {
-    decide(policy, &mut table.to_vec(), request)
+    match previewed(policy, table, request) {
+        Ok(grant) => grant,
+        Err(refusal) => refusal,
+    }
 }
 
 // ---------------------------------------------------------------------------------------------
@@ -458,9 +460,27 @@ fn seal(block: &mut Block) {
 // ---------------------------------------------------------------------------------------------
 // The judge
 
-fn judge(policy: &[u8], table: &mut [u8], request: &[u8]) -> Answer<Reply> {
+fn decided(policy: &[u8], table: &mut [u8], request: &[u8]) -> Answer<Reply> {
     let policy = read_policy(policy)?;
-    let held = count_records(&policy, table)?;
+    let step = judge(&policy, table, request)?;
+    let table = table.as_chunks_mut::<512>().0;
+    let grant = step.grant(table)?;
+    step.take(table, grant.third as usize);
+    Ok(grant)
+}
+
+/// The grant is known before anything is written, so that a preview is done with it.
+fn previewed(policy: &[u8], table: &[u8], request: &[u8]) -> Answer<Reply> {
+    let policy = read_policy(policy)?;
+    let step = judge(&policy, table, request)?;
+    step.grant(table.as_chunks().0)
+}
+
+/// The numbers of table and request, and steps 1 to 3. It is built into both callers: as a function
+/// of its own it made a decision on a full table take 6 % longer.
+#[inline(always)]
+fn judge<'s>(policy: &'s Policy, table: &[u8], request: &'s [u8]) -> Answer<Step<'s>> {
+    let held = count_records(policy, table)?;
     let bytes: Option<&[u8; 28]> = request.try_into().ok();
     refuse_unless(bytes.is_some(), 21, 0, 0)?;
     let bytes = bytes.unwrap();
@@ -468,25 +488,26 @@ fn judge(policy: &[u8], table: &mut [u8], request: &[u8]) -> Answer<Reply> {
     refuse_unless(request.is_good(), 22, 0, 0)?;
     refuse_unless(policy.permits(request.roles, request.privilege), 31, 0, 0)?;
 
-    let table = table.as_chunks_mut::<512>().0;
-    let (judging, mine) = judging_rules(&policy, table, &request);
+    let table = table.as_chunks().0;
+    let (judging, mine) = judging_rules(policy, table, &request);
     // A bigger count of privileges costs more to set up: take one that is twice what it must hold.
     match mine {
-        0..=31 => count_and_judge::<64>(&policy, table, &request, judging)?,
-        32..=255 => count_and_judge::<512>(&policy, table, &request, judging)?,
-        _ => count_and_judge::<4096>(&policy, table, &request, judging)?,
+        0..=31 => count_and_judge::<64>(policy, table, &request, judging)?,
+        32..=255 => count_and_judge::<512>(policy, table, &request, judging)?,
+        _ => count_and_judge::<4096>(policy, table, &request, judging)?,
     }
 
     let closing = bits(judging & policy.with_last)
         .filter(|&r| policy.last_step(r) == request.privilege)
         .fold(0, |set, r| set | 1 << r);
-    let step = Step {
-        policy: &policy,
-        context: &request.context,
+    Ok(Step {
+        policy,
+        request: bytes,
+        context: request.context,
+        held,
         closing,
         marks: judging & !closing,
-    };
-    step.take(table, held, bytes)
+    })
 }
 
 /// The rules that judge the request, and how many records of its user some of them may count.
@@ -615,10 +636,13 @@ impl<const SLOTS: usize> Tally<SLOTS> {
     }
 }
 
-/// Steps 4 and 5: a request that nothing speaks against is put into the table.
+/// Steps 4 and 5: a request that no exclusion speaks against.
 struct Step<'s> {
     policy: &'s Policy<'s>,
-    context: &'s Context,
+    request: &'s [u8; 28],
+    context: Context,
+    /// The records that the table holds before it.
+    held: usize,
     /// The rules whose run the request ends.
     closing: u32,
     /// The other judging rules.
@@ -626,7 +650,8 @@ struct Step<'s> {
 }
 
 impl Step<'_> {
-    fn take(&self, table: &mut [Block], held: usize, request: &[u8; 28]) -> Answer<Reply> {
+    /// What comes of it, or 34.
+    fn grant(&self, table: &[Block]) -> Answer<Reply> {
         let removed = if self.closing == 0 {
             0
         } else {
@@ -635,22 +660,25 @@ impl Step<'_> {
                 .count()
         };
         let recorded = usize::from(self.marks != 0);
-        let held_after = held - removed + recorded;
+        let held_after = self.held - removed + recorded;
         let places = RECORDS_PER_BLOCK * table.len();
         refuse_unless(held_after <= places, 34, 0, 0)?;
+        Ok(Reply::grant(recorded, removed, held_after))
+    }
 
+    /// Writes the new table, which holds so many records.
+    fn take(&self, table: &mut [Block], held_after: usize) {
         let mut writer = Writer { table, altered: 0 };
         if self.closing != 0 {
-            self.clear(&mut writer, held);
+            self.clear(&mut writer);
         }
-        if recorded == 1 {
+        if self.marks != 0 {
             let mut record = [0; 32];
-            record[..28].copy_from_slice(request);
+            record[..28].copy_from_slice(self.request);
             put_word(&mut record, 7, self.marks);
             writer.put(held_after - 1, &record);
         }
         writer.finish(held_after);
-        Ok(Reply::grant(recorded, removed, held_after))
     }
 
     /// The marks that are left to a record.
@@ -658,13 +686,13 @@ impl Step<'_> {
         if marks & self.closing == 0 {
             return marks;
         }
-        marks & !(self.closing & self.policy.sharing(self.context, &earlier.context))
+        marks & !(self.closing & self.policy.sharing(&self.context, &earlier.context))
     }
 
     /// Clears marks and closes up; the places that fall free become zero.
-    fn clear(&self, writer: &mut Writer, held: usize) {
+    fn clear(&self, writer: &mut Writer) {
         let mut to = 0;
-        for from in 0..held {
+        for from in 0..self.held {
             let mut record = writer.get(from);
             let (earlier, marks) = read_record(&record);
             let left = self.left(&earlier, marks);
@@ -677,7 +705,7 @@ impl Step<'_> {
             }
             to += 1;
         }
-        for place in to..held {
+        for place in to..self.held {
             writer.put(place, &[0; 32]);
         }
     }

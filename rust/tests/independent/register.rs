@@ -4,7 +4,8 @@
 
 use super::images::*;
 use super::judge::{fits, judging_rules, place, Place, Tally};
-use super::{Answer, Reply};
+use super::{refuse_unless, Answer, Reply};
+use std::borrow::Borrow;
 use std::collections::{BTreeMap, BTreeSet};
 
 pub struct Register {
@@ -31,27 +32,40 @@ impl Register {
 
     /// The answer to a request of any bytes and length; a grant is taken down.
     pub fn answer(&mut self, request: &[u8]) -> Reply {
-        self.answered(request).unwrap_or_else(|refusal| refusal)
+        match self.judge(request) {
+            Ok((grant, request, counted)) => {
+                self.granted.push(request);
+                self.counted = counted;
+                grant
+            }
+            Err(refusal) => refusal,
+        }
     }
 
-    fn answered(&mut self, request: &[u8]) -> Answer<Reply> {
+    /// What [`Register::answer`] would say; nothing is taken down.
+    pub fn preview(&self, request: &[u8]) -> Reply {
+        match self.judge(request) {
+            Ok((grant, ..)) => grant,
+            Err(refusal) => refusal,
+        }
+    }
+
+    /// A grant, the request that it is for, and what `counted` is with that appended.
+    fn judge(&self, request: &[u8]) -> Answer<(Reply, Request, Vec<u32>)> {
         let request = read_request(request)?;
         judging_rules(&self.policy, &request, |r, at| self.run(r, at))?;
 
-        self.granted.push(request);
-        let counted = entries_in_runs(&self.policy, &self.granted);
+        let appended: Vec<&Request> = self.granted.iter().chain([&request]).collect();
+        let counted = entries_in_runs(&self.policy, &appended);
         let held = counted.iter().filter(|&&marks| marks != 0).count();
-        if held > places(self.blocks) {
-            self.granted.pop();
-            return Err(Reply::refuse(34, 0, 0));
-        }
+        refuse_unless(held <= places(self.blocks), 34, 0, 0)?;
 
         let removed = (self.counted.iter().zip(&counted))
             .filter(|(&before, &now)| before != 0 && now == 0)
             .count();
         let recorded = counted.last().is_some_and(|&marks| marks != 0);
-        self.counted = counted;
-        Ok(Reply::grant(recorded as usize, removed, held))
+        let grant = Reply::grant(recorded as usize, removed, held);
+        Ok((grant, request, counted))
     }
 
     /// The requests of the run of a rule (from 0) at a place.
@@ -133,8 +147,8 @@ impl Register {
 /// Of the list's entries that fit the rule and are of one place, in order, those of the run:
 /// "without all up to and including the latest last step; and, where a first step is set, without
 /// all before the earliest first step remaining (empty if none remains)".
-fn cut_to_run(rule: &Rule, list: &[Request], there: &[usize]) -> Vec<usize> {
-    let is = |entry: usize, step: Privilege| list[entry].privilege == step;
+fn cut_to_run(rule: &Rule, list: &[impl Borrow<Request>], there: &[usize]) -> Vec<usize> {
+    let is = |entry: usize, step: Privilege| list[entry].borrow().privilege == step;
     let mut run = there;
     if let Some(last) = rule.last {
         let latest = run.iter().rposition(|&entry| is(entry, last));
@@ -148,11 +162,12 @@ fn cut_to_run(rule: &Rule, list: &[Request], there: &[usize]) -> Vec<usize> {
 }
 
 /// All runs of a rule.
-fn runs(rule: &Rule, list: &[Request]) -> BTreeMap<Place, Vec<usize>> {
+fn runs(rule: &Rule, list: &[impl Borrow<Request>]) -> BTreeMap<Place, Vec<usize>> {
     let mut by_place: BTreeMap<Place, Vec<usize>> = BTreeMap::new();
     for (entry, request) in list.iter().enumerate() {
-        if fits(rule, &request.context) {
-            let there = by_place.entry(place(rule, &request.context)).or_default();
+        let context = &request.borrow().context;
+        if fits(rule, context) {
+            let there = by_place.entry(place(rule, context)).or_default();
             there.push(entry);
         }
     }
@@ -163,7 +178,7 @@ fn runs(rule: &Rule, list: &[Request]) -> BTreeMap<Place, Vec<usize>> {
 }
 
 /// For each list entry the rules that have it in some run.
-fn entries_in_runs(policy: &Policy, list: &[Request]) -> Vec<u32> {
+fn entries_in_runs(policy: &Policy, list: &[&Request]) -> Vec<u32> {
     let mut counted = vec![0; list.len()];
     for (r, rule) in policy.rules.iter().enumerate() {
         for entry in runs(rule, list).values().flatten() {

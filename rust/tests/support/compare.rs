@@ -2,6 +2,7 @@
 
 use super::lent::{Lay, Lent};
 use super::plain;
+use crate::independent::images::{places, BLOCK};
 use crate::independent::{judge, quick, Reply};
 use hastovimen::raw;
 use std::collections::BTreeMap;
@@ -11,8 +12,9 @@ use std::fmt;
 #[derive(Default)]
 pub struct Seen {
     pub decisions: usize,
+    pub previews: usize,
     refusals: BTreeMap<(&'static str, u32), usize>,
-    grants: BTreeMap<Kind, usize>,
+    grants: BTreeMap<(&'static str, Kind), usize>,
     notes: BTreeMap<&'static str, usize>,
 }
 
@@ -34,18 +36,23 @@ pub const TABLE_NUMBERS: [u32; 5] = [11, 12, 13, 14, 15];
 pub const REQUEST_NUMBERS: [u32; 2] = [21, 22];
 pub const JUDGE_NUMBERS: [u32; 4] = [31, 32, 33, 34];
 
+/// What is taken down of previews.
+pub const MAKES_ROOM: &str = "previews of a last step that makes room in a full table";
+
 impl Seen {
     fn take(&mut self, call: &'static str, reply: Reply) {
+        let (decides, previews) = (call == "decide", call == "preview");
         if reply.is_refusal() {
             *self.refusals.entry((call, reply.number)).or_default() += 1;
-        } else if call == "decide" {
+        } else if decides || previews {
             let kind = (reply.first != 0, reply.second != 0, reply.third != 0);
-            *self.grants.entry(kind).or_default() += 1;
+            *self.grants.entry((call, kind)).or_default() += 1;
         }
-        self.decisions += usize::from(call == "decide");
+        self.decisions += usize::from(decides);
+        self.previews += usize::from(previews);
     }
 
-    /// Takes down that a decision met with this.
+    /// Takes down that a call met with this.
     pub fn note(&mut self, what: &'static str) {
         *self.notes.entry(what).or_default() += 1;
     }
@@ -62,13 +69,13 @@ impl Seen {
         }
     }
 
-    /// Fails unless each of these kinds of grant was seen so many times.
-    pub fn must_grant(&self, kinds: &[Kind], times: usize) {
-        for kind in kinds {
-            let seen = self.grants.get(kind).copied().unwrap_or(0);
+    /// Fails unless the call gave each of these kinds of grant so many times.
+    pub fn must_grant(&self, call: &'static str, kinds: &[Kind], times: usize) {
+        for &kind in kinds {
+            let seen = self.grants.get(&(call, kind)).copied().unwrap_or(0);
             assert!(
                 seen >= times,
-                "grant {kind:?} was seen {seen} times\n{self}"
+                "{call} granted {kind:?} {seen} times\n{self}"
             );
         }
     }
@@ -84,14 +91,18 @@ impl Seen {
 
 impl fmt::Display for Seen {
     fn fmt(&self, f: &mut fmt::Formatter) -> fmt::Result {
-        writeln!(f, "{} decisions", self.decisions)?;
-        for ((recorded, removed, held), times) in &self.grants {
+        writeln!(
+            f,
+            "{} decisions, {} previews",
+            self.decisions, self.previews
+        )?;
+        for ((call, (recorded, removed, held)), times) in &self.grants {
             let some = |yes: &bool| if *yes { "some" } else { "0" };
             let recorded = u8::from(*recorded);
             let (removed, held) = (some(removed), some(held));
             writeln!(
                 f,
-                "  grant, recorded {recorded}, removed {removed}, held {held}: {times}"
+                "  {call} granted, recorded {recorded}, removed {removed}, held {held}: {times}"
             )?;
         }
         for ((call, number), times) in &self.refusals {
@@ -178,6 +189,25 @@ impl Comparing {
         self.done("decide", reply)
     }
 
+    /// Previews; no lent byte is altered, whatever the answer.
+    pub fn preview(&mut self, policy: &[u8], table: &[u8], request: &[u8]) -> Reply {
+        self.lay(policy, table, request);
+        let reply = plain::preview(raw::preview(
+            self.policy.bytes(),
+            self.table.bytes(),
+            self.request.bytes(),
+        ));
+        let quick = quick::preview(policy, table, request);
+        assert_eq!(reply, quick, "quick judge");
+        let judge = judge::preview(policy, table, request);
+        assert_eq!(reply, judge, "judge");
+        self.nothing_altered(policy, table, request);
+        if makes_room(reply, places(table.len() / BLOCK)) {
+            self.seen.note(MAKES_ROOM);
+        }
+        self.done("preview", reply)
+    }
+
     /// Compares what a call has made of the table; takes it over if the call was not refused.
     fn new_table(
         &mut self,
@@ -222,4 +252,15 @@ impl Comparing {
         self.seen.take(call, reply);
         reply
     }
+}
+
+/// Whether a request is recorded in a table of so many places that was full, as others go.
+fn makes_room(reply: Reply, places: usize) -> bool {
+    let Reply {
+        number,
+        first: recorded,
+        second: removed,
+        third: held,
+    } = reply;
+    number == 0 && recorded == 1 && removed > 0 && (held - 1 + removed) as usize == places
 }

@@ -13,6 +13,7 @@ const CANARY: u8 = 0xA5;
 const CANARIES: usize = 64;
 
 const PROT_NONE: c_int = 0;
+const PROT_READ: c_int = 1;
 const PROT_READ_WRITE: c_int = 3;
 const MAP_PRIVATE_ANONYMOUS: c_int = 0x22;
 
@@ -69,6 +70,15 @@ impl Lent {
             len: 0,
             lay: Lay::AtTheBeginning,
         }
+    }
+
+    /// These bytes, which may not be written to: one byte written ends the test at once.
+    pub fn read_only(bytes: &[u8]) -> Lent {
+        let mut lent = Lent::new(bytes.len());
+        lent.lay(bytes, Lay::AtTheEnd);
+        let protected = unsafe { mprotect(lent.pages.cast(), lent.size, PROT_READ) };
+        assert_eq!(protected, 0);
+        lent
     }
 
     /// Lays these bytes down, with canaries beside them.

@@ -1,5 +1,6 @@
-//! Lists of requests put to one table, and the shortest beginning of one that fails.
+//! Lists of calls put to one table, and the shortest beginning of one that fails.
 
+use super::chance::Chance;
 use super::compare::{Comparing, Seen};
 use super::plain::line;
 use crate::independent::images::*;
@@ -13,9 +14,37 @@ use std::sync::Mutex;
 pub struct List {
     pub policy: Vec<u8>,
     pub start: Start,
-    pub requests: Vec<Vec<u8>>,
-    /// Whether anybody has reached m is asked after every so many requests.
+    pub calls: Vec<Call>,
+    /// Whether anybody has reached m is asked after every so many grants.
     pub every: usize,
+}
+
+/// What is done with a request, whose bytes these are.
+pub enum Call {
+    Decide(Vec<u8>),
+    Preview(Vec<u8>),
+    /// A preview, and directly after it the decision.
+    Both(Vec<u8>),
+}
+
+impl Call {
+    /// Decides these requests in their order, and previews some first. Now and then any other
+    /// request of the list is previewed in between.
+    pub fn with_previews(chance: &mut Chance, requests: Vec<Vec<u8>>) -> Vec<Call> {
+        let mut calls = vec![];
+        for request in &requests {
+            if chance.percent(8) {
+                calls.push(Call::Preview(chance.pick(&requests)));
+            }
+            let decide = if chance.percent(25) {
+                Call::Both
+            } else {
+                Call::Decide
+            };
+            calls.push(decide(request.clone()));
+        }
+        calls
+    }
 }
 
 pub enum Start {
@@ -31,9 +60,9 @@ impl List {
         self.run_noting(comparing, |_, _, _| {});
     }
 
-    /// The same; before each decision `note` sees the table and which request comes, from 0.
-    pub fn run_noting(&self, comparing: &mut Comparing, note: impl Fn(&mut Seen, &[u8], usize)) {
-        let all = self.requests.len();
+    /// The same; before each decision `note` sees the table and the request.
+    pub fn run_noting(&self, comparing: &mut Comparing, note: impl Fn(&mut Seen, &[u8], &[u8])) {
+        let all = self.calls.len();
         let played = catch_unwind(AssertUnwindSafe(|| {
             self.play(comparing, all, self.every, &note)
         }));
@@ -43,36 +72,34 @@ impl List {
         }
     }
 
-    /// Plays the first requests, and panics at the first difference.
+    /// Plays the first calls, and panics at the first difference.
     fn play(
         &self,
         comparing: &mut Comparing,
         length: usize,
         every: usize,
-        note: impl Fn(&mut Seen, &[u8], usize),
+        note: impl Fn(&mut Seen, &[u8], &[u8]),
     ) {
-        let policy = &self.policy;
         let mut table = self.table().to_vec();
-        let mut along = self.begin(comparing, &mut table);
-        for (i, request) in self.requests[..length].iter().enumerate() {
-            note(&mut comparing.seen, &table, i);
-            let harmless = along.as_ref().map(|along| along.could_take(request));
-            let reply = comparing.decide(policy, &mut table, request);
-            if let Some(along) = &mut along {
-                along.take(request, reply, &table, harmless == Some(true));
-                if i % every == 0 {
-                    assert!(along.register.nobody_has_reached_m());
-                }
+        let along = self.begin(comparing, &mut table, every);
+        let policy = &self.policy;
+        let mut play = Play {
+            comparing,
+            policy,
+            table,
+            along,
+        };
+        for call in &self.calls[..length] {
+            if let Call::Decide(request) | Call::Both(request) = call {
+                note(&mut play.comparing.seen, &play.table, request);
             }
+            play.call(call);
         }
-        if let Some(along) = along {
-            let held = comparing.check_table(policy, &table);
-            assert_eq!(held, Reply::accept(along.held()));
-        }
+        play.end();
     }
 
     /// Makes the table fresh, if it is to be.
-    fn begin(&self, comparing: &mut Comparing, table: &mut [u8]) -> Option<Along> {
+    fn begin(&self, comparing: &mut Comparing, table: &mut [u8], every: usize) -> Option<Along> {
         let Start::Fresh(_) = self.start else {
             return None;
         };
@@ -83,6 +110,7 @@ impl List {
         assert!(table == register.image(), "a fresh table is another");
         Some(Along {
             register,
+            every,
             recorded: 0,
             removed: 0,
         })
@@ -94,15 +122,15 @@ impl List {
         }
     }
 
-    /// Whether its beginning fails, with everything asked after every request.
+    /// Whether its beginning fails, with everything asked after every grant.
     fn fails(&self, length: usize) -> bool {
         let play = || self.play(&mut Comparing::new(), length, 1, |_, _, _| {});
         silently(|| catch_unwind(AssertUnwindSafe(play)).is_err())
     }
 
-    /// Its first requests in words, with the answers of the independent judge.
+    /// Its first calls in words, with the answers of the independent judge.
     fn text(&self, length: usize) -> String {
-        let mut text = format!("the shortest failing list has {length} requests\n");
+        let mut text = format!("the shortest failing list has {length} calls\n");
         let policy = hastovimen::Policy::check(&self.policy);
         text += &policy.map_or_else(|bad| bad.to_string(), |policy| policy.to_string());
         let mut table = self.table().to_vec();
@@ -112,38 +140,96 @@ impl List {
         }
         let held = judge::check_table(&self.policy, &table).first;
         writeln!(text, "blocks of the table: {blocks}; records: {held}").unwrap();
-        for (i, request) in self.requests[..length].iter().enumerate() {
+        for (i, call) in self.calls[..length].iter().enumerate() {
+            let (name, request) = match call {
+                Call::Decide(request) => ("", request),
+                Call::Preview(request) => ("preview of ", request),
+                Call::Both(request) => ("preview and decision of ", request),
+            };
             let words = hastovimen::Request::read(request);
             let words = words.map_or(format!("{request:?}"), |request| request.to_string());
-            let answer = line(judge::decide(&self.policy, &mut table, request));
-            writeln!(text, "{} {words}: {answer}", i + 1).unwrap();
+            let answer = line(match call {
+                Call::Preview(_) => judge::preview(&self.policy, &table, request),
+                _ => judge::decide(&self.policy, &mut table, request),
+            });
+            writeln!(text, "{} {name}{words}: {answer}", i + 1).unwrap();
         }
         text
+    }
+}
+
+/// A list while it is played.
+struct Play<'l> {
+    comparing: &'l mut Comparing,
+    policy: &'l [u8],
+    table: Vec<u8>,
+    along: Option<Along>,
+}
+
+impl Play<'_> {
+    fn call(&mut self, call: &Call) {
+        match call {
+            Call::Decide(request) => {
+                self.decide(request);
+            }
+            Call::Preview(request) => {
+                let reply = self.preview(request);
+                if let Some(along) = &self.along {
+                    assert_eq!(reply, along.register.preview(request), "the register");
+                }
+            }
+            // The decision is compared with the register.
+            Call::Both(request) => {
+                let foreseen = self.preview(request);
+                assert_eq!(foreseen, self.decide(request), "the preview");
+            }
+        }
+    }
+
+    fn preview(&mut self, request: &[u8]) -> Reply {
+        self.comparing.preview(self.policy, &self.table, request)
+    }
+
+    fn decide(&mut self, request: &[u8]) -> Reply {
+        let reply = (self.comparing).decide(self.policy, &mut self.table, request);
+        if let Some(along) = &mut self.along {
+            along.take(request, reply, &self.table);
+        }
+        reply
+    }
+
+    fn end(self) {
+        if let Some(along) = self.along {
+            let held = self.comparing.check_table(self.policy, &self.table);
+            assert_eq!(held, Reply::accept(along.held()));
+        }
     }
 }
 
 /// The register that goes along with a list from a fresh table, and what the grants add up to.
 struct Along {
     register: Register,
+    every: usize,
     recorded: u32,
     removed: u32,
 }
 
 impl Along {
-    fn could_take(&self, request: &[u8]) -> bool {
-        self.register.could_take(request)
-    }
-
-    fn take(&mut self, request: &[u8], reply: Reply, table: &[u8], harmless: bool) {
+    fn take(&mut self, request: &[u8], reply: Reply, table: &[u8]) {
+        let harmless = reply.is_refusal() || self.register.could_take(request);
         assert_eq!(reply, self.register.answer(request), "the register");
         let same = table == self.register.image();
         assert!(same, "the register's image is another");
-        if !reply.is_refusal() {
-            assert!(harmless, "somebody has reached m with this step");
-            self.recorded += reply.first;
-            self.removed += reply.second;
-            assert_eq!(self.held(), reply.third as usize);
+        if reply.is_refusal() {
+            return;
         }
+        assert!(harmless, "somebody has reached m with this step");
+        if self.register.grants().is_multiple_of(self.every) {
+            assert!(self.register.nobody_has_reached_m());
+        }
+        self.recorded += reply.first;
+        self.removed += reply.second;
+        assert_eq!(self.held(), reply.third as usize);
     }
 
     fn held(&self) -> usize {

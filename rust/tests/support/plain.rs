@@ -1,7 +1,7 @@
 //! The wrapper's answers as the four numbers of the independent judges; and those as a line.
 
 use crate::independent::Reply;
-use hastovimen::{Grant, Refusal};
+use hastovimen::{Grant, Preview, Refusal};
 
 /// Of a call that counts rules, records or places.
 pub fn count(answer: Result<u32, Refusal>) -> Reply {
@@ -13,12 +13,24 @@ pub fn count(answer: Result<u32, Refusal>) -> Reply {
 
 /// Of a decision.
 pub fn grant(answer: Result<Grant, Refusal>) -> Reply {
+    let three = answer.map(|grant| (grant.recorded, grant.removed, grant.held));
+    judged(three)
+}
+
+/// Of a preview.
+#[allow(dead_code)]
+pub fn preview(answer: Result<Preview, Refusal>) -> Reply {
+    let three = answer.map(|preview| (preview.recorded, preview.removed, preview.held));
+    judged(three)
+}
+
+fn judged(answer: Result<(bool, u32, u32), Refusal>) -> Reply {
     match answer {
-        Ok(grant) => Reply {
+        Ok((recorded, removed, held)) => Reply {
             number: 0,
-            first: grant.recorded.into(),
-            second: grant.removed,
-            third: grant.held,
+            first: recorded.into(),
+            second: removed,
+            third: held,
         },
         Err(refusal) => refused(refusal),
     }
