@@ -3,7 +3,7 @@
 use Prim.Native.Nat.{ℕ, _+_, _≤_}
 use native.Mathlib.Numerals.{add-one}
 use native.Mathlib.Omega.{arith}
-use mathlib.Core.Path.{_≡_, sym, ap, _∙_}
+use mathlib.Core.Path.{_≡_, ap, _∙_}
 use mathlib.Core.Bool.{cond}
 use mathlib.Core.List.{List, [], _∷_, _++_, map, append-nil}
 use lib.ListN.{length, length-append, length-map}
@@ -12,11 +12,10 @@ use borrow.Author.Tests.{eq-eqb, ne-eqb}
 use Rattle.word_laws.proofs.Keep.{keep-split}
 use Rattle.format.specs.Request.{Request}
 use Rattle.format.specs.Table.{Record, hasMark}
-use Rattle.format.specs.Records.{recordsHere}
 use Rattle.judge.specs.NewTable.{sweep}
 use Rattle.matching.specs.declared.masks.Each.{Each}
 use Rattle.clearing.specs.Cleared.{clearedBy, leftBy, afterBy}
-use Rattle.clearing.proofs.Left.{sweep-none, sweep-one, length-here, length-swept}
+use Rattle.clearing.proofs.Left.{sweep-none, sweep-one, length-swept}
 
 module _ (e : Each) (q : Request) (ends : ℕ) where
   pub after-none : (gives : ℕ) (rs : List Record) → gives ≡ 0 → afterBy e q ends gives rs ≡ leftBy e q ends rs

@@ -1,21 +1,21 @@
 -- From what the code's steps promise, over the records that stand in the table, to what `decide` says, over the records that the table means.
 -- Assumes nothing.
-use Prim.Native.Nat.{ℕ, _*_, _≤_}
-use mathlib.Core.Path.{_≡_, refl, sym, ap, _∙_, subst}
+use Prim.Native.Nat.{ℕ}
+use mathlib.Core.Path.{_≡_, refl}
 use mathlib.Core.Bool.{Bool, true, false}
 use mathlib.Core.List.{List}
-use mathlib.Core.Option.{Option, none, some}
+use mathlib.Core.Option.{none}
 use borrow.Author.Tests.{eqb-true}
-use lib.ListN.{length, getD}
+use lib.ListN.{length}
 use lib.Dec.{leb}
-use Rattle.words.specs.First.{_orElse_, unless}
+use Rattle.words.specs.First.{unless}
 use Rattle.word_laws.proofs.First.{none-first, passes-unless}
-use Rattle.format.specs.Answer.{Answer, Refusal, refusal, Outcome, refusing}
+use Rattle.format.specs.Answer.{refusing}
 use Rattle.format.specs.Layout.{requestBytes, capacity}
 use Rattle.format.specs.Block.{blocks}
 use Rattle.format.specs.Request.{requestFault}
 use Rattle.format.specs.Policy.{policyFault, policyOf}
-use Rattle.format.specs.Table.{Record, tableFault, recordsOf}
+use Rattle.format.specs.Table.{tableFault, recordsOf}
 use Rattle.format.specs.Records.{recordsHere}
 use Rattle.judge.specs.Verdict.{verdict}
 use Rattle.judge.specs.NewTable.{openIn, pastIn, tableAfter}

@@ -1,21 +1,17 @@
--- What the check of a policy says of its length, and the words of its stamp.
+-- What the check of a policy says of its length.
 -- Assumes nothing.
-use Prim.Native.Nat.{ℕ, _+_, _*_, _/_, _≤_, _<_}
-use mathlib.Core.Path.{_≡_, refl, sym, ap, _∙_}
-use mathlib.Core.Bool.{Bool, true, false, _&&_}
+use Prim.Native.Nat.{ℕ, _*_, _≤_}
+use mathlib.Core.Path.{_≡_}
+use mathlib.Core.Bool.{Bool, true, _&&_}
 use mathlib.Core.List.{List}
 use mathlib.Core.Option.{none}
-use native.Mathlib.Omega.{arith}
 use borrow.Author.Tests.{eqb-true, leb-true}
 use lib.ListN.{length}
-use lib.Seq.{take-all}
 use lib.Dec.{eqb, leb}
-use Rattle.words.specs.Bytes.{part}
-use Rattle.words.specs.Sums.{Sums, sums, words}
 use Rattle.word_laws.proofs.First.{none-first, passes-unless}
 use Rattle.word_laws.proofs.Tests.{both-first, both-second}
 use Rattle.format.specs.Block.{blocks, goodLength}
-use Rattle.format.specs.Policy.{policyFault, stamp}
+use Rattle.format.specs.Policy.{policyFault}
 
 -- the length of an accepted image
 abbrev pub Blocked : ℕ → List ℕ → Type 0
@@ -38,11 +34,3 @@ good-blocked most s e =
 pub policy-blocked : (s : List ℕ) → policyFault s ≡ none → Blocked 64 s
 unfolding policyFault
 policy-blocked s e = good-blocked 64 s (passes-unless _ _ (none-first _ _ e))
-
--- the stamp of an accepted policy is the sum over its words
-pub stamp-words : (s : List ℕ) → policyFault s ≡ none → sums (words (part s 0 (4 * (length s / 4)))) ≡ stamp s
-unfolding stamp
-stamp-words s e = rw (take-all (4 * (length s / 4)) s (whole (length s) (blocks s) (policy-blocked s e .0)))
-  where
-    whole : (n b : ℕ) → 512 * b ≡ n → n ≤ 4 * (n / 4)
-    whole n b h = omega arith

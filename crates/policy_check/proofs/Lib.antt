@@ -3,4 +3,5 @@ pub mod BlockFields
 pub mod PolicyBlock
 pub mod Sized
 pub mod Lengths
+pub mod Stamps
 pub mod Entry

@@ -2,3 +2,4 @@ pub mod block;
 pub mod permission;
 pub mod policy;
 pub mod rule;
+pub mod stamp;

@@ -12,6 +12,7 @@ ghost use Rattle.policy_check.specs.Parts.{goodHeader, blockFault, block
 use crate::block::good_check;
 use crate::permission::permission_fault;
 use crate::rule::rule_fault;
+use crate::stamp::stamp_of;
 use fields::field::u16_at;
 use fields::field::u32_at;
 use fields::layout::BLOCK_BYTES;
@@ -22,12 +23,10 @@ use fields::layout::PERMISSION_KIND;
 use fields::layout::POLICY_BLOCKS;
 use fields::layout::RULE_KIND;
 use fields::layout::TOTAL_AT;
-use fields::layout::WORD_BYTES;
 use fields::tables::good_length;
 use format::answer::Fault;
 use format::answer::Refusal;
 use sums::sum::Sum;
-use sums::sum::sum_words;
 
 // The header of block k of `total`, where `seen` says that a permission block came before it.
 fn good_header(b: &[u8], k: u32, total: u32, seen: bool) -> bool
@@ -128,6 +127,6 @@ pub fn rules_and_stamp(s: &[u8]) -> Checked
 {
     Checked {
         rules: rule_count(s),
-        stamp: sum_words(s, 0, s.len() / WORD_BYTES),
+        stamp: stamp_of(s),
     }
 }

@@ -15,6 +15,15 @@ wordBytes = 4
 abbrev pub sumsOf : Sum → Sums
 sumsOf s = record { a = s .a; b = s .b }
 
+-- the words of a block that its check is over
+abbrev pub checkedWords : ℕ
+checkedWords = 126
+
+-- the state after n words more, by the sums t over them alone, which began with a = 1 and b = 0
+unfoldable pub goOn : Sums → ℕ → Sums → Sums
+goOn s n t =
+    record { a = wrap (t .a + (s .a + 4294967295)); b = wrap (t .b + (s .b + n * (s .a + 4294967295))) }
+
 -- word i of a byte string, from a byte on
 unfoldable pub wordFrom : List ℕ → ℕ → ℕ → ℕ
 wordFrom s at i = u32At s (at + wordBytes * i)

@@ -4,8 +4,9 @@ ghost use Prim.Native.Nat.{_+_, _*_, _<_, _≤_};
 ghost use lib.ListN.{length};
 ghost use Rattle.words.specs.Bytes.{u32At, part};
 ghost use Rattle.words.specs.Sums.{sums, words, addWord, wrap};
-ghost use Rattle.sums.specs.Code.{wordBytes, sumsOf, wordFrom, fourOf, fours, together as togetherOf};
+ghost use Rattle.sums.specs.Code.{wordBytes, checkedWords, sumsOf, goOn, wordFrom, fourOf, fours, together as togetherOf};
 use fields::field::u32_at;
+use fields::layout::CHECKED_WORDS;
 use fields::layout::WORD_BYTES;
 use std::num::wrapping_add_u32;
 
@@ -33,6 +34,17 @@ impl Sum {
         Sum {
             a,
             b: wrapping_add_u32(self.b, a),
+        }
+    }
+
+    // The words of a block that its check is over, by the check alone.
+    pub fn add_checked(self, check: Sum) -> Self
+        ensures { λ r. ⌜ sumsOf r ≡ goOn (sumsOf self) checkedWords (sumsOf check) ⌝ }
+    {
+        let ahead = self.a as u64 + 4294967295;
+        Sum {
+            a: wrapped(check.a as u64 + ahead),
+            b: wrapped(check.b as u64 + (self.b as u64 + CHECKED_WORDS as u64 * ahead)),
         }
     }
 }

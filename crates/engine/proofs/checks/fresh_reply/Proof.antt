@@ -1,9 +1,8 @@
 -- `engine::checks::fresh_reply` meets its contract.
 -- Assumes nothing.
-use mathlib.Core.Path.{_≡_, sym, ap, _∙_}
+use mathlib.Core.Path.{sym, _∙_}
 use native.Mathlib.Omega.{arith}
 use borrow.Author.Tests.{not-true, not-false}
-use Rattle.format.specs.Code.{faultOf}
 use Rattle.policy_check.proofs.Lengths.{good-blocked}
 use Rattle.engine.proofs.Checked.{fresh-length, fresh-written}
 use borrow.Author.Needs.{needs}

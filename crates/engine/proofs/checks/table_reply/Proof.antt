@@ -1,6 +1,6 @@
 -- `engine::checks::table_reply` meets its contract.
 -- Assumes nothing.
-use mathlib.Core.Path.{_≡_, sym, ap, _∙_}
+use mathlib.Core.Path.{sym, ap, _∙_}
 use native.Mathlib.Omega.{arith}
 use Rattle.format.specs.Code.{faultOf}
 use Rattle.table_check.proofs.Here.{accepted-small}

@@ -1,6 +1,6 @@
 -- `engine::deciding::decide` meets its contract.
 -- Assumes nothing.
-use mathlib.Core.Path.{_≡_, ap, _∙_, subst}
+use mathlib.Core.Path.{ap, _∙_, subst}
 use borrow.Author.Needs.{needs}
 use Rattle.format.specs.Answer.{Answer}
 use Rattle.table_write.proofs.SliceBytes.{slice-bytes}

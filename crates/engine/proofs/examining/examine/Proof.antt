@@ -1,6 +1,6 @@
 -- `engine::examining::examine` meets its contract.
 -- Assumes nothing.
-use mathlib.Core.Path.{_≡_, sym, ap, _∙_}
+use mathlib.Core.Path.{sym, ap, _∙_}
 use Rattle.format.specs.Code.{faultOf}
 use Rattle.engine.proofs.Decided.{by-policy}
 use borrow.Author.Needs.{needs}

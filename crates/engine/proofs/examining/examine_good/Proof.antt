@@ -1,6 +1,6 @@
 -- `engine::examining::examine_good` meets its contract.
 -- Assumes nothing.
-use mathlib.Core.Path.{_≡_, sym, ap, _∙_}
+use mathlib.Core.Path.{sym, ap, _∙_}
 use borrow.Author.Needs.{needs}
 use Rattle.format.specs.Code.{faultOf}
 use Rattle.table_write.proofs.SliceBytes.{slice-bytes}
