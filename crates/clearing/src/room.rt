@@ -26,7 +26,7 @@ fn stays(each: Each, ends: RuleSet, q: &[u8], table: &[u8], n: usize, i: usize) 
     1
 }
 
-// How many of the n records keep a mark, one by one.
+// How many of the n records keep a mark, counted one by one.
 fn count_kept(each: Each, ends: RuleSet, q: &[u8], table: &[u8], n: usize) -> usize
     requires { ⌜ length (now q) ≡ requestBytes ⌝ }
     requires { ⌜ HasRoom (now table) n ⌝ }
@@ -39,7 +39,7 @@ fn count_kept(each: Each, ends: RuleSet, q: &[u8], table: &[u8], n: usize) -> us
     count
 }
 
-// The same: where no rule ends, all of them do.
+// The same, without counting where no rule ends: all of them do then.
 fn kept(each: Each, ends: RuleSet, q: &[u8], table: &[u8], n: usize) -> usize
     requires { ⌜ length (now q) ≡ requestBytes ⌝ }
     requires { ⌜ (HasRoom (now table) n) × (AllMarked (now table) n) ⌝ }

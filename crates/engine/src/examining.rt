@@ -28,6 +28,7 @@ pub struct Pass {
     pub effect: Effect,
 }
 
+// The refusal that a decision gives, or a request that has passed.
 pub enum Examined {
     Refused(Refusal),
     Passed(Pass),
