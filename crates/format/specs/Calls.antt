@@ -1,4 +1,4 @@
--- Three of the four entry points: "check a policy, check a table under a policy, make a fresh table in a lent buffer (1 to 6, then 11)".
+-- The first three entry points: "check a policy, check a table under a policy, make a fresh table in a lent buffer (1 to 6, then 11)".
 -- What each answers for any bytes of any length; "Acceptance returns a policy's rules, a table's records, a fresh table's places (15 times B)."
 -- Assumes nothing.
 use Prim.Native.Nat.{ℕ}

@@ -362,11 +362,6 @@ module _ (policy table request : List ℕ) (passes : policyFault policy ≡ none
 
   -- ---- preview, on bytes: "what the decision would return"
 
-  -- a refusal by the judge's numbers, 34 among them
-  pub preview-of-a-refusal : requestFault request ≡ none → (r : Refusal) → fault ≡ some r → preview policy table request ≡ refuse r
-  unfolding preview
-  preview-of-a-refusal q r f = ap (λ o. o .answer) (rows-judge q r f)
-
   -- a grant with its three numbers as they would be afterwards
   pub preview-of-a-grant :
       requestFault request ≡ none → fault ≡ none → (a : Answer) (rs : List Record) → judged ≡ record { answer = a; state = rs }
@@ -374,7 +369,12 @@ module _ (policy table request : List ℕ) (passes : policyFault policy ≡ none
   unfolding preview
   preview-of-a-grant q f a rs j = ap (λ o. o .answer) (grant-in-bytes q f a rs j)
 
+  -- a refusal by the judge's numbers, 34 among them
+  pub preview-of-a-refusal : requestFault request ≡ none → (r : Refusal) → fault ≡ some r → preview policy table request ≡ refuse r
+  unfolding preview
+  preview-of-a-refusal q r f = ap (λ o. o .answer) (rows-judge q r f)
+
 -- and a refusal by the numbers before: no policy, a table of two bytes, no request
 pub preview-of-no-policy : preview [] (7 ∷ 8 ∷ []) [] ≡ refuse (refusal 1 0 0)
-unfolding preview
-preview-of-no-policy = ap (λ o. o .answer) rows-policy
+unfolding preview decideFault decide policyFault goodLength refusing _orElse_ unless
+preview-of-no-policy = refl
