@@ -42,15 +42,14 @@ module _ (e : Each) (q : Request) (ends : ℕ) where
       → ltb k room ≡ leb (length (afterBy e q ends gives rs)) room
   counted-room gives rs z k room is = rw (after-count gives rs z, ← is, add-one k)
 
-  pub after-few : (gives : ℕ) (rs : List Record) → length (afterBy e q ends gives rs) ≤ length rs + cond (eqb gives 0) 0 1
+  pub after-length : (gives : ℕ) (rs : List Record) → length (afterBy e q ends gives rs) ≡ length (leftBy e q ends rs) + cond (eqb gives 0) 0 1
   unfolding afterBy
-  after-few gives rs =
-      omega (
-        arith,
-        left-few rs,
-        length-append (leftBy e q ends rs) (sweep (record { request = q; marks = gives } ∷ [])),
-        length-swept (record { request = q; marks = gives }),
-      )
+  after-length gives rs =
+      length-append (leftBy e q ends rs) (sweep (record { request = q; marks = gives } ∷ []))
+      ∙ ap (λ (x : ℕ). length (leftBy e q ends rs) + x) (length-swept (record { request = q; marks = gives }))
+
+  pub after-few : (gives : ℕ) (rs : List Record) → length (afterBy e q ends gives rs) ≤ length rs + cond (eqb gives 0) 0 1
+  after-few gives rs = omega (arith, left-few rs, after-length gives rs)
 
 -- the number recorded
 pub recorded-none : (gives : ℕ) → gives ≡ 0 → _≡_ {A = ℕ} (cond (eqb gives 0) 0 1) 0

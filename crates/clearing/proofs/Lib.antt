@@ -1,4 +1,3 @@
 pub mod Left
 pub mod After
-pub mod MarksCleared
-pub mod RecordsSwept
+pub mod Settled

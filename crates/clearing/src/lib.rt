@@ -1,4 +1,4 @@
-// What a grant does to the records of a table: marks cleared, records without marks swept away, and whether there is room then. Each can be used alone.
-pub mod clearing;
+// What a grant does to the records of a table: what it takes from their marks, what is left of them, and whether there is room then.
+pub mod ending;
 pub mod room;
-pub mod sweeping;
+pub mod settling;

@@ -7,10 +7,11 @@ ghost use Rattle.format.specs.Request.{requestFault};
 ghost use Rattle.format.specs.Table.{tableFault, recordsOf};
 ghost use Rattle.policy_check.specs.Code.{CheckedIs};
 ghost use Rattle.engine.specs.Examined.{ExaminedIs};
+use clearing::ending::Ending;
+use fields::sets::RuleSet;
 use format::answer::Fault;
 use format::answer::Refusal;
-use matching::masks::Each;
-use matching::rules::Effect;
+use matching::masks::each_of;
 use policy_check::policy::Checked;
 use policy_check::policy::policy_fault;
 use policy_check::policy::rules_and_stamp;
@@ -20,12 +21,12 @@ use table_check::tables::record_count;
 use table_check::tables::table_fault;
 use verdict::verdicts::verdict_of;
 
-// A request that has passed: the policy's stamp, how many records the table has, the masks of run places, and what a grant ends and gives.
+// A request that has passed: the policy's stamp, how many records the table has, and what a grant ends and gives.
 pub struct Pass {
     pub stamp: Sum,
     pub held: usize,
-    pub each: Each,
-    pub effect: Effect,
+    pub ending: Ending,
+    pub gives: RuleSet,
 }
 
 // The refusal that a decision gives, or a request that has passed.
@@ -77,19 +78,22 @@ fn examine_good(policy: &[u8], checked: Checked, table: &[u8], n: usize, request
     requires { ⌜ requestFault (now request) ≡ none ⌝ }
     ensures { λ r. ⌜ ExaminedIs (now (policy .entry)) (now (table .entry)) (now (request .entry)) r ⌝ }
 {
-    let verdict = verdict_of(policy, checked, request, table, n);
+    let each = each_of(policy, checked);
+    let verdict = verdict_of(policy, checked, each, request, table, n);
     let fault = verdict.fault;
     match fault {
         Fault::At(r) => Examined::Refused(r),
         Fault::Nothing => {
             let stamp = checked.stamp;
-            let each = verdict.each;
-            let effect = verdict.effect;
+            let near = verdict.near;
+            let rules = verdict.effect.ends;
+            let gives = verdict.effect.gives;
+            let ending = Ending { rules, each, near };
             Examined::Passed(Pass {
                 stamp,
                 held: n,
-                each,
-                effect,
+                ending,
+                gives,
             })
         }
     }

@@ -4,7 +4,7 @@
 -- - some sizes and offsets of Layout, and capacity: tried one by one, an example breaks if any of them is one more (contextBytes: one less);
 -- - blankLevel of a request: tried, an example breaks if a level half blank passes for blank;
 -- - what only puts together definitions that edits do alter: sealed, permissionsAt, levelAt, exclusionAt, isSet, marked, recordBytesAt, recordImage,
---   blockImage, freshTable, and the records by where they start (Records). Examples compute with each of them.
+--   blockImage, freshTable, altered, alteredBlocks, and the records by where they start (Records). Examples compute with each of them.
 -- Assumes nothing.
 use Prim.Native.Nat.{ℕ, _+_, _-_, _*_}
 use mathlib.Core.Path.{_≡_, refl}
@@ -28,9 +28,10 @@ use Rattle.format.specs.Rule.{ruleFault}
 use Rattle.format.specs.Fits.{fits, levelFits, place, placeValue, samePlace}
 use Rattle.format.specs.Policy.{Policy, permissionAt, entries, goodPermission, goodPermissionBytes, permissionFault, goodPolicyHeader}
 use Rattle.format.specs.Policy.{policyBlockFault, policyFault, ruleCount, permissionsAt, policyOf, stamp}
-use Rattle.format.specs.Table.{count, goodMarks, goodRecord, recordAt, gap, goodTableHeader, goodStamp, tableBlockFault, tableLengthFault}
+use Rattle.format.specs.Table.{Record, count, goodMarks, goodRecord, recordAt, gap, goodTableHeader, goodStamp, tableBlockFault, tableLengthFault}
 use Rattle.format.specs.Table.{tableFault, recordsOf, recordImage, blockImage, tableImage, freshTable}
 use Rattle.format.specs.Records.{recordStart, recordsHere}
+use Rattle.format.specs.Altered.{sameRecord, sameRecords, altered, alteredBlocks}
 use Rattle.format.specs.Calls.{checkPolicy, checkTable, makeTable}
 
 -- what these examples compute with
@@ -40,7 +41,7 @@ unfolding flatten allBelow anyBelow sumBelow tab sameList _orElse_ unless first 
     blankRuleLevel goodStep goodSteps goodRule goodRoles goodPrivileges goodExclusion blankExclusion goodRuleBytes goodExclusionAt ruleFault fits
     levelFits place placeValue samePlace goodPermission goodPermissionBytes permissionFault goodPolicyHeader policyBlockFault policyFault ruleCount
     permissionsAt policyOf stamp goodMarks goodRecord recordAt gap goodTableHeader goodStamp tableBlockFault tableLengthFault tableFault recordsOf
-    recordImage blockImage tableImage freshTable recordsHere checkPolicy checkTable makeTable
+    recordImage blockImage tableImage freshTable recordsHere sameRecord sameRecords altered alteredBlocks checkPolicy checkTable makeTable
 opened = tt
 
 -- ---- requests
@@ -607,6 +608,49 @@ pub tables-filled :
     ≡ (15 ∷ 1 ∷ 0 ∷ []) ∷ (0 ∷ 1 ∷ 2 ∷ []) ∷ (3 ∷ 3 ∷ 3 ∷ []) ∷ replicate 16 1 ∷ good 1 ∷ []
 unfolding opened
 tables-filled = refl
+
+-- ---- which blocks have other records
+
+-- a record of a request of one byte, and its marks; so many alike; so many with the requests from x on
+abbrev recorded : ℕ → ℕ → Record
+recorded x m = record { request = x ∷ []; marks = m }
+
+abbrev alike : ℕ → List Record
+alike n = replicate n (recorded 1 1)
+
+abbrev running : ℕ → ℕ → List Record
+running x n = tab (λ i. recorded i 1) x n
+
+-- "the request and 4 bytes of marks": a record beside itself, one of another request, of a longer one, of other marks
+pub same-record :
+    map (sameRecord (recorded 1 3)) (recorded 1 3 ∷ recorded 2 3 ∷ record { request = 1 ∷ 0 ∷ []; marks = 3 } ∷ recorded 1 1 ∷ [])
+    ≡ true ∷ false ∷ false ∷ false ∷ []
+unfolding opened
+same-record = refl
+
+-- records 1, 2 beside themselves, 1 alone, 1 to 3, and 2, 1
+pub same-records :
+    map (sameRecords (running 1 2)) (running 1 2 ∷ running 1 1 ∷ running 1 3 ∷ (recorded 2 1 ∷ recorded 1 1 ∷ []) ∷ [])
+    ≡ true ∷ false ∷ false ∷ false ∷ []
+unfolding opened
+same-records = refl
+
+-- 31 records alike, in three blocks, become: the same; 30, whichever of them has gone; 14; the same with another request in the first, with other marks
+pub blocks-altered :
+    map (λ rs. map (altered (alike 31) rs) (0 ∷ 1 ∷ 2 ∷ []))
+    (alike 31 ∷ alike 30 ∷ alike 14 ∷ (recorded 2 1 ∷ alike 30) ∷ (recorded 1 2 ∷ alike 30) ∷ [])
+    ≡ replicate 3 false ∷ (false ∷ false ∷ true ∷ []) ∷ replicate 3 true ∷ replicate 2 (true ∷ false ∷ false ∷ [])
+unfolding opened
+blocks-altered = refl
+
+-- "the number whose records differ": 31 that differ become the same; all but the first; all but the last; all but the first and one more; all but the last,
+-- and the first has other marks. Then 15 become 16
+pub blocks-counted :
+    (map (alteredBlocks 3 (running 1 31)) (running 1 31 ∷ running 2 30 ∷ running 1 30 ∷ running 2 31 ∷ (recorded 1 2 ∷ running 2 29) ∷ [])
+    ++ (alteredBlocks 3 (running 1 15) (running 1 16) ∷ []))
+    ≡ 0 ∷ 3 ∷ 1 ∷ 3 ∷ 2 ∷ 1 ∷ []
+unfolding opened
+blocks-counted = refl
 
 -- ---- the calls
 

@@ -8,4 +8,5 @@ pub mod Policy
 pub mod Table
 pub mod Calls
 pub mod Records
+pub mod Altered
 pub mod Code

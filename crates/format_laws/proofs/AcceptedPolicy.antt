@@ -13,6 +13,7 @@ use lib.ListN.{length}
 use Rattle.words.specs.Lists.{allBelow, anyBelow, sumBelow}
 use Rattle.words.specs.Bytes.{byteAt}
 use Rattle.word_laws.proofs.First.{none-first, none-second, passes-unless, none-at}
+use Rattle.word_laws.proofs.Below.{sum-most}
 use Rattle.word_laws.proofs.Tests.{both-first, both-second, anyBelow-at}
 use Rattle.format.specs.Layout.{blockBytes, policyBlocks, ruleKind, permissionKind, mostRules}
 use Rattle.format.specs.Block.{blocks, block, kind, number, total}
@@ -21,15 +22,6 @@ use Rattle.format.specs.Policy.{policyFault, policyBlockFault, goodPolicyHeader
 use Rattle.format_laws.proofs.Accepted.{Blocked, blocked}
 
 -- ---- what comes first stands at the front
-
-sum-most : (n : ℕ) (f : ℕ → Bool) → sumBelow n (λ k. cond (f k) 1 0) ≤ n
-unfolding sumBelow
-sum-most zero f = omega arith
-sum-most (suc n) f = go (sum-most n f) (f n)
-  where
-    go : sumBelow n (λ k. cond (f k) 1 0) ≤ n → (b : Bool) → sumBelow n (λ k. cond (f k) 1 0) + cond b 1 0 ≤ suc n
-    go h true = omega arith
-    go h false = omega arith
 
 -- each of the first n is of one kind, f, or of the other, g, and none of kind f stands behind one of kind g: then those of kind f are the first
 front :

@@ -6,3 +6,4 @@ pub mod AcceptedBlock
 pub mod Accepted
 pub mod AcceptedPolicy
 pub mod BlockRecords
+pub mod Altered

@@ -1,13 +1,14 @@
 -- What a pass over records finds, with one record more; and the words of a past, with one request more.
 -- Assumes nothing.
-use Prim.Native.Nat.{ℕ, suc, _+_, _*_, _<_, _≤_}
+use Prim.Native.Nat.{ℕ, suc, _+_, _*_, _/_, _<_, _≤_}
+use native.Mathlib.Decide.{decLt}
 use native.Mathlib.Numerals.{add-one}
 use native.Mathlib.Omega.{arith}
 use mathlib.Core.Path.{_≡_, refl, sym, ap, ap₂, _∙_}
-use mathlib.Core.Bool.{Bool, true, false, cond, not, _&&_, false≢true}
+use mathlib.Core.Bool.{Bool, true, false, cond, not, _&&_, _||_, false≢true}
 use mathlib.Core.List.{List, [], _∷_, _++_, append-nil, flatten, map}
 use borrow.Author.Tests.{eqb-true}
-use lib.Bits.{bitOr, or-zero-l, or-zero-r}
+use lib.Bits.{bitAnd, bitOr, or-zero-l, or-zero-r}
 use lib.Dec.{eqb}
 use lib.ListN.{length, getD, take, drop, set, length-append, length-set}
 use lib.Seq.{sets, sets-eq, take-at, take-suc, take-suc-set, take-length, length-take-le, length-sets}
@@ -17,14 +18,17 @@ use Rattle.word_laws.proofs.Keep.{keep-more, map-append}
 use Rattle.word_laws.proofs.Parts.{part-whole}
 use Rattle.word_laws.proofs.BitLaws.{or-assoc}
 use Rattle.word_laws.proofs.Lists.{tab-next}
-use Rattle.format.specs.Layout.{requestBytes, recordBytes}
+use Rattle.format.specs.Layout.{requestBytes, recordBytes, blockRecords}
 use Rattle.format.specs.Request.{Request, user, roles}
 use Rattle.format.specs.Table.{Record, marked}
 use Rattle.format.specs.Records.{recordStart, recordFrom, recordHere, recordsHere}
 use Rattle.judge.specs.Tally.{sameUser}
-use Rattle.fields.specs.Code.{HasRoom, doneBy, packedOf}
+use Rattle.fields.specs.Code.{HasRoom, doneBy, packedOf, hasBlock}
 use Rattle.matching.specs.declared.masks.Each.{Each}
-use Rattle.matching.specs.Masks.{apartBy}
+use Rattle.matching.specs.Masks.{apartBy, togetherBy, NearOf}
+use Rattle.matching.proofs.Together.{together-with}
+use Rattle.fields.specs.declared.blocks.BlockSet.{BlockSet}
+use Rattle.fields.proofs.BlockSets.{not-with}
 use Rattle.tally.specs.Code.{wordsOf, pastWords}
 use Rattle.history.specs.Code.{sharedBy, openBy, mayCount, foundIn, standsBy, pastBy}
 
@@ -71,63 +75,93 @@ module _ (e : Each) (rules : ℕ) (q : Request) where
     unfolding mayCount
     may-count f g h = rw (← f, g, h)
 
+-- ---- the blocks that have a record there
+
+module _ (e : Each) (rules : ℕ) (q : Request) (s : List ℕ) (k : ℕ) (near : BlockSet) (was : NearOf e rules q s k near) where
+  one-more : (near′ : BlockSet) → ((i : ℕ) → i < k → hasBlock near′ (i / blockRecords) ≡ false → hasBlock near (i / blockRecords) ≡ false)
+      → (hasBlock near′ (k / blockRecords) ≡ false → bitAnd (recordHere s k .marks) (togetherBy e rules q (recordHere s k .request)) ≡ 0)
+      → NearOf e rules q s (k + 1) near′
+  one-more near′ before last i h off = go (decLt i k)
+    where
+      go : Dec (i < k) → bitAnd (recordHere s i .marks) (togetherBy e rules q (recordHere s i .request)) ≡ 0
+      go (yes l) = was i l (before i l off)
+      go (no g) = let z : i ≡ k = omega arith in rw z (last (rw z at off))
+
+  -- a record that shares no run place
+  near-apart : sharedBy e rules q (recordHere s k) ≡ 0 → NearOf e rules q s (k + 1) near
+  unfolding sharedBy
+  near-apart z =
+      one-more near (λ i l off. off)
+      (λ off. together-with e rules q (recordHere s k .request) (recordHere s k .marks) ∙ z)
+
+  -- one whose block is in the set
+  near-more : (near′ : BlockSet) → ((i : ℕ) → hasBlock near′ i ≡ eqb i (k / blockRecords) || hasBlock near i) → NearOf e rules q s (k + 1) near′
+  near-more near′ grown =
+      one-more near′ (λ i l off. not-with near near′ (k / blockRecords) (i / blockRecords) (grown (i / blockRecords)) off .1)
+      (λ off. absurd (not-with near near′ (k / blockRecords) (k / blockRecords) (grown (k / blockRecords)) off .0 refl))
+
 -- ---- the pass
 
--- when k records have been looked at: x is what is open, and c places of found records stand in the list l
-pub record Passed (e : Each) (rules : ℕ) (q : Request) (s : List ℕ) (len k x c : ℕ) (l : List ℕ) : Type 0 where
+-- when k records have been looked at: x is what is open, the blocks of a set have a record there, and c places of found records stand in the list l
+pub record Passed (e : Each) (rules : ℕ) (q : Request) (s : List ℕ) (len k x : ℕ) (near : BlockSet) (c : ℕ) (l : List ℕ) : Type 0 where
   pub few : c ≤ k
   pub sized : length l ≡ len
   pub opens : x ≡ openBy e rules q (recordsHere s k)
+  pub nears : NearOf e rules q s k near
   pub founds : take c l ≡ foundIn e rules q s k
 
 module _ (e : Each) (rules : ℕ) (q : Request) (s : List ℕ) where
-  pub pass-start : (l : List ℕ) → Passed e rules q s (length l) 0 0 0 l
+  pub pass-start : (near : BlockSet) (l : List ℕ) → Passed e rules q s (length l) 0 0 near 0 l
   unfolding openBy recordsHere foundIn tab keep
-  pass-start l = record { few = omega arith; sized = refl; opens = refl; founds = refl }
+  pass-start near l = record { few = omega arith; sized = refl; opens = refl; nears = λ i h. absurd (omega arith); founds = refl }
 
   module _
-      {len k at y : ℕ} (here : at ≡ recordStart k) (shared : y ≡ sharedBy e rules q (recordFrom s at)) {x c : ℕ} {l : List ℕ}
-      (p : Passed e rules q s len k x c l) where
+      {len k at y : ℕ} (here : at ≡ recordStart k) (shared : y ≡ sharedBy e rules q (recordFrom s at)) {x : ℕ} {near : BlockSet} {c : ℕ} {l : List ℕ}
+      (p : Passed e rules q s len k x near c l) where
     same-found : mayCount e rules q (recordFrom s at) ≡ false → take c l ≡ foundIn e rules q s (k + 1)
     same-found g = p .founds ∙ sym (found-more e rules q s k at here ∙ rw g (append-nil (foundIn e rules q s k)))
 
     -- it shares no run place
-    pub pass-apart : eqb y 0 ≡ true → Passed e rules q s len (k + 1) x c l
+    pub pass-apart : eqb y 0 ≡ true → Passed e rules q s len (k + 1) x near c l
     pass-apart h =
         record {
           few = omega (arith, p .few);
           sized = p .sized;
           opens = sym (or-zero-r x) ∙ ap (bitOr x) (sym (eqb-true y 0 h)) ∙ open-more e rules q s k at here (p .opens) shared;
+          nears = near-apart e rules q s k near (p .nears) (sym (ap (λ (i : ℕ). sharedBy e rules q (recordFrom s i)) here) ∙ sym shared ∙ eqb-true y 0 h);
           founds = same-found (may-count e rules q s k at here shared h refl);
         }
 
-    module _ (h : eqb y 0 ≡ false) {z : ℕ} (either : z ≡ bitOr x y) where
+    module _ (h : eqb y 0 ≡ false) {z : ℕ} (either : z ≡ bitOr x y) (near′ : BlockSet)
+        (grown : (i : ℕ) → hasBlock near′ i ≡ eqb i (k / blockRecords) || hasBlock near i) where
       -- it is another user's
-      pub pass-other : sameUser (user q) (part s at requestBytes) ≡ false → Passed e rules q s len (k + 1) z c l
+      pub pass-other : sameUser (user q) (part s at requestBytes) ≡ false → Passed e rules q s len (k + 1) z near′ c l
       pass-other u =
           record {
             few = omega (arith, p .few);
             sized = p .sized;
             opens = either ∙ open-more e rules q s k at here (p .opens) shared;
+            nears = near-more e rules q s k near (p .nears) near′ grown;
             founds = same-found (may-count e rules q s k at here shared h u);
           }
 
       -- it is the user's
       pub pass-found :
-          sameUser (user q) (part s at requestBytes) ≡ true → c < length l → Passed e rules q s len (k + 1) z (c + 1) (set l c at)
+          sameUser (user q) (part s at requestBytes) ≡ true → c < length l → Passed e rules q s len (k + 1) z near′ (c + 1) (set l c at)
       pass-found u r =
           record {
             few = omega (arith, p .few);
             sized = length-set l c at ∙ p .sized;
             opens = either ∙ open-more e rules q s k at here (p .opens) shared;
+            nears = near-more e rules q s k near (p .nears) near′ grown;
             founds =
                 rw (add-one c, take-suc-set l c at r, p .founds)
                 (sym (found-more e rules q s k at here ∙ rw (may-count e rules q s k at here shared h u)));
           }
 
-  pub pass-end : {len k n x c : ℕ} {l : List ℕ} → k ≡ n → Passed e rules q s len k x c l
-      → (x ≡ openBy e rules q (recordsHere s n)) × (c ≤ n) × (take c l ≡ foundIn e rules q s n) × (length l ≡ len)
-  pass-end f p = rw (← f) (p .opens, p .few, p .founds, p .sized)
+  pub pass-end : {len k n x : ℕ} {near : BlockSet} {c : ℕ} {l : List ℕ} → k ≡ n → Passed e rules q s len k x near c l
+      → (x ≡ openBy e rules q (recordsHere s n)) × NearOf e rules q s n near × (c ≤ n) × (take c l ≡ foundIn e rules q s n) × (length l ≡ len)
+  pass-end f p = rw (← f) (p .opens, p .nears, p .few, p .founds, p .sized)
 
 -- the request at byte 0 is the whole
 pub of-user : (q x : Request) → length q ≡ requestBytes → {u : ℕ} {b r : Bool} → u ≡ user (part q 0 requestBytes) → b ≡ sameUser u x → b ≡ r → sameUser (user q) x ≡ r

@@ -7,10 +7,13 @@ ghost use Rattle.format.specs.Layout.{requestBytes, recordBytes};
 ghost use Rattle.format.specs.Records.{recordFrom, recordsHere};
 ghost use Rattle.judge.specs.Tally.{sameUser};
 ghost use Rattle.fields.specs.Code.{HasRoom};
+ghost use Rattle.matching.specs.Masks.{NearOf};
 ghost use Rattle.history.specs.Code.{sharedBy, openBy, foundIn};
+use fields::blocks::BlockSet;
 use fields::number::User;
 use fields::request;
 use fields::sets::RuleSet;
+use fields::tables::Blocks;
 use fields::tables::record_start;
 use matching::masks::Each;
 use matching::masks::together;
@@ -31,9 +34,10 @@ pub fn shared_at(each: Each, rules: RuleSet, q: &[u8], table: &[u8], at: usize) 
     together(each, request::marks(table, at).and(rules), q, table, at)
 }
 
-// What the pass finds: the rules whose run place is open, and how many records may count.
+// What the pass finds: the rules whose run place is open, the blocks that have a record there, and how many records may count.
 pub struct Found {
     pub open: RuleSet,
+    pub near: BlockSet,
     pub count: usize,
 }
 
@@ -49,10 +53,11 @@ pub fn find(
 ) -> Found
     requires { ⌜ (length (now q) ≡ requestBytes) × (n ≤ length (now found)) ⌝ }
     requires { ⌜ HasRoom (now table) n ⌝ }
-    ensures { λ r. ⌜ (r .open .0 ≡ openBy each (fitting .0) (now (q .entry)) (recordsHere (now (table .entry)) n)) × (r .count ≤ n) × (take (r .count) (now (found .exit)) ≡ foundIn each (fitting .0) (now (q .entry)) (now (table .entry)) n) × (length (now (found .exit)) ≡ length (now (found .entry))) ⌝ }
+    ensures { λ r. ⌜ (r .open .0 ≡ openBy each (fitting .0) (now (q .entry)) (recordsHere (now (table .entry)) n)) × (NearOf each (fitting .0) (now (q .entry)) (now (table .entry)) n (r .near)) × (r .count ≤ n) × (take (r .count) (now (found .exit)) ≡ foundIn each (fitting .0) (now (q .entry)) (now (table .entry)) n) × (length (now (found .exit)) ≡ length (now (found .entry))) ⌝ }
 {
     let who = request::user(q, 0);
     let mut open = RuleSet(0);
+    let mut near = BlockSet::none();
     let mut count = 0usize;
     for k in 0..n {
         let at = record_start(k);
@@ -61,10 +66,11 @@ pub fn find(
             continue;
         }
         open = open.or(shared);
+        near = near.with(k / Blocks::RECORDS);
         if same_user(table, at, who) {
             found[count] = at as u16;
             count += 1;
         }
     }
-    Found { open, count }
+    Found { open, near, count }
 }

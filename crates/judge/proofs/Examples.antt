@@ -1,6 +1,7 @@
 -- Worked examples of the judge: the tally, the verdict of steps 1 to 3, the new table of steps 4 and 5, and decide on bytes. Each is broken by one of this
 -- crate's must-fail edits. No edit alters the sample session (Sample): it is the paper's data, and its fifteen lines are proved in crate demand3. Nor timesDone, permitted, isLast, recordOf, tableAfter: edits put something else in their place
--- where they are used.
+-- where they are used. How many blocks a decision writes (decidedBlocks) is told by alteredBlocks, which has its examples in crate format: computed from a
+-- table's bytes it would cost seconds at each edit that breaks it.
 -- Assumes nothing.
 use Prim.Native.Nat.{ℕ, _*_}
 use mathlib.Core.Path.{_≡_, refl, ap}
@@ -20,6 +21,7 @@ use Rattle.format.specs.Policy.{Policy, Permission}
 use Rattle.format.specs.Policy.{policyFault, policyOf, stamp}
 use Rattle.format.specs.Table.{Record, tableLengthFault, tableFault}
 use Rattle.format.specs.Table.{recordsOf, tableImage}
+use Rattle.format.specs.Altered.{alteredBlocks}
 use Rattle.judge.specs.Tally.{sameUser, does, countsFor, roleTally, timesListed, timesDone, repeats, privilegeTally, tally, reached, exclusionNumber}
 use Rattle.judge.specs.Tally.{counted}
 use Rattle.judge.specs.Verdict.{grants, permitted, isFirst, isLast, judges, failing, verdict}
@@ -27,6 +29,7 @@ use Rattle.judge.specs.NewTable.{standsIn, openIn, pastIn, ends, gives, 
 use Rattle.judge.specs.NewTable.{judge}
 use Rattle.judge.specs.Decide.{decideFault, decide}
 use Rattle.judge.specs.Preview.{preview}
+use Rattle.judge.specs.Written.{decidedBlocks}
 
 -- what these examples compute with
 opened : Unit {0}
@@ -373,6 +376,22 @@ module _ (policy table request : List ℕ) (passes : policyFault policy ≡ none
   pub preview-of-a-refusal : requestFault request ≡ none → (r : Refusal) → fault ≡ some r → preview policy table request ≡ refuse r
   unfolding preview
   preview-of-a-refusal q r f = ap (λ o. o .answer) (rows-judge q r f)
+
+  -- ---- how many blocks a decision writes: "the number whose records differ"
+
+  -- of a grant, those in which the new table's records are others than the lent one's
+  pub blocks-of-a-grant :
+      requestFault request ≡ none → fault ≡ none → (a : Answer) (rs : List Record) → judged ≡ record { answer = a; state = rs }
+      → decidedBlocks policy table request ≡ alteredBlocks (blocks table) (recordsOf table) (recordsOf (tableImage (stamp policy) (blocks table) rs))
+  unfolding decidedBlocks
+  blocks-of-a-grant q f a rs j = ap (λ o. alteredBlocks (blocks table) (recordsOf table) (recordsOf (o .state))) (grant-in-bytes q f a rs j)
+
+  -- of a refusal, those in which a table's records are others than its own
+  pub blocks-of-a-refusal :
+      requestFault request ≡ none → (r : Refusal) → fault ≡ some r
+      → decidedBlocks policy table request ≡ alteredBlocks (blocks table) (recordsOf table) (recordsOf table)
+  unfolding decidedBlocks
+  blocks-of-a-refusal q r f = ap (λ o. alteredBlocks (blocks table) (recordsOf table) (recordsOf (o .state))) (rows-judge q r f)
 
 -- and a refusal by the numbers before: no policy, a table of two bytes, no request
 pub preview-of-no-policy : preview [] (7 ∷ 8 ∷ []) [] ≡ refuse (refusal 1 0 0)

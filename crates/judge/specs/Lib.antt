@@ -4,3 +4,4 @@ pub mod NewTable
 pub mod Decide
 pub mod Preview
 pub mod Sample
+pub mod Written

@@ -1,3 +1,4 @@
 pub mod Levels
 pub mod Apart
 pub mod RuleSets
+pub mod Together

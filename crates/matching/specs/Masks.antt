@@ -1,15 +1,20 @@
 -- Run places by masks: a number stands for a set of rules, rule i + 1 at bit i. Two contexts lie in different run places of a rule
 -- exactly where they differ in value at one of its levels with mark 3, each; so four masks, one a level, tell all rules at once.
 -- Assumes nothing.
-use Prim.Native.Nat.{ℕ, _-_}
+use Prim.Native.Nat.{ℕ, _-_, _/_, _<_}
 use mathlib.Core.Path.{_≡_}
-use mathlib.Core.Bool.{Bool, cond, not, _&&_}
+use mathlib.Core.Bool.{Bool, false, cond, not, _&&_}
+use mathlib.Core.List.{List}
 use lib.Bits.{bitAnd, bitOr}
 use lib.Dec.{eqb, ltb}
 use Rattle.words.specs.Bytes.{bits}
 use Rattle.format.specs.Request.{Request, contextOf, levelValue}
 use Rattle.format.specs.Fits.{samePlace}
 use Rattle.format.specs.Policy.{Policy}
+use Rattle.format.specs.Layout.{blockRecords}
+use Rattle.format.specs.Records.{recordHere}
+use Rattle.fields.specs.declared.blocks.BlockSet.{BlockSet}
+use Rattle.fields.specs.Code.{hasBlock}
 use Rattle.matching.specs.declared.masks.Each.{Each}
 
 -- the rule of index i has mark 3, "each", at level l: one of the levels that its depth counts
@@ -44,3 +49,8 @@ apartBy e q x = bitOr (apartAt q x 0 (e .first .0)) (apartWithin e q x)
 -- of a set of rules, those under which the two requests share a run place
 unfoldable pub togetherBy : Each → ℕ → Request → Request → ℕ
 togetherBy e rules q x = rules - bitAnd rules (apartBy e q x)
+
+-- outside a set of blocks none of the first n records of a table is marked for one of these rules in the request's run place
+abbrev pub NearOf : Each → ℕ → Request → List ℕ → ℕ → BlockSet → Type 0
+NearOf e rules q s n near =
+    (i : ℕ) → i < n → hasBlock near (i / blockRecords) ≡ false → bitAnd (recordHere s i .marks) (togetherBy e rules q (recordHere s i .request)) ≡ 0

@@ -17,12 +17,12 @@ use Rattle.table_write.proofs.Parts.{part-behind}
 
 module _ (src : List ℕ) (bytes : Every Byte src) (from i : ℕ) (inside : from + 4 * i + 4 ≤ length src) where
   -- one word more of the source
-  word-more : part src from (4 * i) ++ bytes4 (u32At src (from + 4 * i)) ≡ part src from (4 * (i + 1))
+  pub word-more : part src from (4 * i) ++ bytes4 (u32At src (from + 4 * i)) ≡ part src from (4 * (i + 1))
   word-more =
       let e : 4 * (i + 1) ≡ 4 * i + 4 = omega arith in
       rw (bytes4-u32At src bytes (from + 4 * i) inside, e, take-add, drop-drop)
 
-  part-length : length (part src from (4 * i)) ≡ 4 * i
+  pub part-length : length (part src from (4 * i)) ≡ 4 * i
   part-length = length-take-le (4 * i) (drop from src) (rw length-drop (omega arith))
 
   -- is one word more of the copy

@@ -1,8 +1,9 @@
 pub mod SliceBytes
-pub mod BlockSets
 pub mod Over
 pub mod Sealing
 pub mod Parts
 pub mod Copied
+pub mod Compared
 pub mod Records
 pub mod TableWritten
+pub mod Placed

@@ -1,16 +1,19 @@
 -- A table written block by block: the blocks that were passed are those of the image of the records that stood in it, and with none left it is that
 -- image.
 -- Assumes nothing.
-use Prim.Native.Nat.{ℕ, _+_, _-_, _*_, _/_, _≤_, _<_}
+use Prim.Native.Nat.{ℕ, zero, suc, _+_, _*_, _≤_, _<_}
+use native.Mathlib.Nat.{add-zero}
+use native.Mathlib.Numerals.{add-one}
 use native.Mathlib.Decide.{decLt}
 use native.Mathlib.Omega.{arith}
 use mathlib.Core.Path.{_≡_, refl, sym, ap, _∙_}
-use mathlib.Core.Bool.{true, false, false≢true}
+use mathlib.Core.Bool.{Bool, true, false, cond, false≢true}
 use mathlib.Core.List.{List, flatten}
 use lib.ListN.{length}
 use lib.Seq.{take-all}
-use Rattle.words.specs.Lists.{tab}
+use Rattle.words.specs.Lists.{tab, sumBelow}
 use Rattle.words.specs.Sums.{Sums}
+use Rattle.word_laws.proofs.Below.{sum-more, sum-most}
 use Rattle.word_laws.proofs.Every.{Every}
 use Rattle.word_laws.proofs.Lists.{tab-cong, flatten-parts}
 use Rattle.word_laws.proofs.Bytes.{Byte}
@@ -18,9 +21,9 @@ use Rattle.format.specs.Layout.{blockBytes, capacity}
 use Rattle.format.specs.Block.{blocks, block}
 use Rattle.format.specs.Table.{recordAt, blockImage, tableImage}
 use Rattle.format.specs.Records.{recordsHere}
-use Rattle.table_write.specs.Writing.{over, countIn, imageBlock, hasBlock, ImageBut, KeptBut}
-use Rattle.table_write.specs.declared.blocks.BlockSet.{BlockSet}
-use Rattle.fields.specs.Code.{HasRoom}
+use Rattle.table_write.specs.Writing.{over, countIn, imageBlock, ImageBut, sizeOf}
+use Rattle.fields.specs.declared.blocks.BlockSet.{BlockSet}
+use Rattle.fields.specs.Code.{HasRoom, hasBlock}
 use Rattle.format_laws.proofs.TableImage.{image-block}
 use Rattle.table_write.proofs.Over.{over-sized}
 use Rattle.table_write.proofs.Parts.{part-before, part-behind, part-here}
@@ -45,30 +48,10 @@ image-kept t s s′ n n′ k eb ek en e =
     ∙ ap (blockImage t (blocks s) k) (chunk-here s n k)
     ∙ rw (← eb, ← ek, ← en) (sym (ap (blockImage t (blocks s′) k) (chunk-here s′ n′ k)))
 
--- an image is one outside any set of blocks, and it stays so where blocks are kept
+-- an image is one outside any set of blocks
 pub image-but : (t : Sums) (s : List ℕ) (n : ℕ) (set : BlockSet) → Every Byte s → HasRoom s n → s ≡ tableImage t (blocks s) (recordsHere s n)
     → ImageBut t s n set
 image-but t s n set bytes room e = record { outside = λ k h off. image-at t s n bytes (room .whole) (room .few) e k h }
-
-pub but-kept : {t : Sums} {s s′ : List ℕ} {n n′ : ℕ} {set set′ : BlockSet} → KeptBut s n set s′ n′ set′ → ImageBut t s n set → ImageBut t s′ n′ set′
-but-kept {t} {s} {s′} {n} {n′} kept but =
-    record {
-      outside =
-          λ k h off.
-          image-kept t s s′ n n′ k (ap (λ (x : ℕ). x / blockBytes) (kept .long)) (kept .same k off) (kept .as-many k off)
-          (but .outside k (omega (arith, kept .long)) (kept .before k off));
-    }
-
--- one step after another
-pub kept-kept : {s₁ s₂ s₃ : List ℕ} {n₁ n₂ n₃ : ℕ} {set₁ set₂ set₃ : BlockSet}
-    → KeptBut s₁ n₁ set₁ s₂ n₂ set₂ → KeptBut s₂ n₂ set₂ s₃ n₃ set₃ → KeptBut s₁ n₁ set₁ s₃ n₃ set₃
-kept-kept f g =
-    record {
-      long = g .long ∙ f .long;
-      before = λ k off. f .before k (g .before k off);
-      same = λ k off. g .same k off ∙ f .same k (g .before k off);
-      as-many = λ k off. g .as-many k off ∙ f .as-many k (g .before k off);
-    }
 
 -- table s, that was s₀, with the blocks from k on left
 pub record Written (t : Sums) (s₀ : List ℕ) (n k : ℕ) (s : List ℕ) : Type 0 where
@@ -135,3 +118,29 @@ done {t} {s₀} {n} {s} w whole =
     sym (take-all (blockBytes * blocks s₀) s (omega (arith, w .long)))
     ∙ sym (flatten-parts blockBytes s 0 (blocks s₀))
     ∙ ap flatten (tab-cong (block s) (imageBlock t (blocks s₀) (recordsHere s₀ n)) 0 (blocks s₀) (λ j lo hi. w .passed j (omega arith)))
+
+-- ---- how many were written
+
+module _ (set : BlockSet) where
+  pub size-start : 0 ≡ sizeOf 0 set
+  unfolding sizeOf sumBelow
+  size-start = refl
+
+  pub size-most : {x : ℕ} (k : ℕ) → x ≡ sizeOf k set → x ≤ k
+  unfolding sizeOf
+  size-most k is = rw is (sum-most k (hasBlock set))
+
+  -- block k was passed, or written
+  pub size-skip : {x : ℕ} (k : ℕ) → x ≡ sizeOf k set → hasBlock set k ≡ false → x ≡ sizeOf (k + 1) set
+  unfolding sizeOf
+  size-skip {x} k is off = sym (add-zero x) ∙ sum-more (λ j. cond (hasBlock set j) 1 0) k x 0 is (sym (ap (λ (b : Bool). cond b 1 0) off))
+
+  pub size-more : {x : ℕ} (k : ℕ) → x ≡ sizeOf k set → hasBlock set k ≡ true → x + 1 ≡ sizeOf (k + 1) set
+  unfolding sizeOf
+  size-more {x} k is on = sum-more (λ j. cond (hasBlock set j) 1 0) k x 1 is (sym (ap (λ (b : Bool). cond b 1 0) on))
+
+  -- each of them is in the set
+  pub size-all : (b : ℕ) → ((k : ℕ) → k < b → hasBlock set k ≡ true) → sizeOf b set ≡ b
+  unfolding sizeOf sumBelow
+  size-all zero every = refl
+  size-all (suc b) every = rw (size-all b (λ k h. every k (omega arith)), every b (omega arith)) (add-one b)

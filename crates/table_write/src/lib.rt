@@ -1,2 +1,3 @@
-pub mod blocks;
+// Tables written: records put at their places, and the blocks around them.
+pub mod places;
 pub mod write;

@@ -1,37 +1,33 @@
-// Tables written: a block's header, zeros and check around the records that stand in it, a table block by block, and one record.
+// Tables written: a block's header, zeros and check around the records that stand in it, and a table block by block.
 ghost use mathlib.Core.Path.{_≡_};
 ghost use mathlib.Core.Bool.{true};
-ghost use mathlib.Core.List.{[], _++_};
+ghost use mathlib.Core.List.{[]};
 ghost use Prim.Native.Nat.{_+_, _*_, _≤_, _<_};
 ghost use lib.ListN.{length, take};
 ghost use Rattle.words.specs.Lists.{tab};
-ghost use Rattle.words.specs.Bytes.{zeros, part, bytes4};
+ghost use Rattle.words.specs.Bytes.{zeros};
 ghost use Rattle.sums.specs.Code.{sumsOf};
-ghost use Rattle.format.specs.Layout.{blockBytes, checkAt, spareAt, recordsAt, blockRecords, recordBytes, requestBytes, tableBlocks};
+ghost use Rattle.format.specs.Layout.{blockBytes, checkAt, spareAt, recordsAt, blockRecords, tableBlocks};
 ghost use Rattle.format.specs.Block.{blocks, block as blockAt, goodLength, sumBytes, sealed};
 ghost use Rattle.format.specs.Table.{recordAt, blockImage, tableImage};
 ghost use Rattle.format.specs.Records.{recordsHere};
-ghost use Rattle.table_write.specs.Writing.{over, numbersImage, headerImage, countIn, ImageBut};
-use crate::blocks::BlockSet;
+ghost use Rattle.table_write.specs.Writing.{over, numbersImage, headerImage, countIn, ImageBut, sizeOf};
+use fields::blocks::BlockSet;
 use fields::field::put_u16;
 use fields::field::put_u32;
-use fields::field::u32_at;
 use fields::layout::BLOCK_BYTES;
 use fields::layout::CHECK_AT;
 use fields::layout::CHECKED_WORDS;
 use fields::layout::COUNT_AT;
 use fields::layout::KIND_AT;
-use fields::layout::MARKS_AT;
 use fields::layout::NUMBER_AT;
 use fields::layout::RECORD_BYTES;
 use fields::layout::RECORDS_AT;
-use fields::layout::REQUEST_WORDS;
 use fields::layout::SPARE_AT;
 use fields::layout::SPARE_BYTES;
 use fields::layout::STAMP_AT;
 use fields::layout::TABLE_KIND;
 use fields::layout::TOTAL_AT;
-use fields::sets::RuleSet;
 use fields::tables::Blocks;
 use sums::sum::Sum;
 use sums::sum::sum_words;
@@ -128,76 +124,30 @@ fn records_in(n: usize, k: usize) -> usize
     Blocks::RECORDS
 }
 
-// Writes the blocks of a set around the n records that stand in a table that is an image everywhere else.
+// Writes the blocks of a set around the n records that stand in a table that is an image everywhere else, and says how many it wrote.
 // A block is written because its records differ: the caller says which do.
-pub fn seal_blocks(table: &mut [u8], stamp: Sum, n: usize, changed: BlockSet)
+pub fn seal_blocks(table: &mut [u8], stamp: Sum, n: usize, changed: BlockSet) -> usize
     requires { ⌜ (length (now table) ≡ blockBytes * blocks (now table)) × (blocks (now table) ≤ tableBlocks) ⌝ }
     requires { ⌜ ImageBut (sumsOf stamp) (now table) n changed ⌝ }
-    ensures { λ r. ⌜ now (table .exit) ≡ tableImage (sumsOf stamp) (blocks (now (table .entry))) (recordsHere (now (table .entry)) n) ⌝ }
+    ensures { λ r. ⌜ (now (table .exit) ≡ tableImage (sumsOf stamp) (blocks (now (table .entry))) (recordsHere (now (table .entry)) n)) × (r ≡ sizeOf (blocks (now (table .entry))) changed) ⌝ }
 {
     let total = table.len() / BLOCK_BYTES;
+    let mut written = 0usize;
     for k in 0..total {
         if !changed.has(k) {
             continue;
         }
         seal_block(table, stamp, total, k, records_in(n, k));
+        written += 1;
     }
+    written
 }
 
-// A table of as many blocks as the buffer has room for, with no record.
-pub fn fresh(table: &mut [u8], stamp: Sum)
+// A table of as many blocks as the buffer has room for, with no record. All of them are written: what was there need not have been a table.
+pub fn fresh(table: &mut [u8], stamp: Sum) -> usize
     requires { ⌜ goodLength tableBlocks (now table) ≡ true ⌝ }
-    ensures { λ r. ⌜ now (table .exit) ≡ tableImage (sumsOf stamp) (blocks (now (table .entry))) [] ⌝ }
+    ensures { λ r. ⌜ (now (table .exit) ≡ tableImage (sumsOf stamp) (blocks (now (table .entry))) []) × (r ≡ blocks (now (table .entry))) ⌝ }
 {
     let total = table.len() / BLOCK_BYTES;
-    seal_blocks(table, stamp, 0, BlockSet::none().with_range(0, total));
-}
-
-// ---- a record
-
-// Copies n words of another slice.
-fn copy_words(s: &mut [u8], at: usize, from: &[u8], n: usize)
-    requires { ⌜ (at + 4 * n ≤ length (now s)) × (4 * n ≤ length (now from)) ⌝ }
-    ensures { λ r. ⌜ now (s .exit) ≡ over (now (s .entry)) at (4 * n) (take (4 * n) (now (from .entry))) ⌝ }
-{
-    for i in 0..n {
-        put_u32(s, at + 4 * i, u32_at(from, 4 * i));
-    }
-}
-
-// Copies n words to a byte that is not behind their own: a word is read before it is written over.
-fn move_words(s: &mut [u8], from: usize, to: usize, n: usize)
-    requires { ⌜ (to ≤ from) × (from + 4 * n ≤ length (now s)) ⌝ }
-    ensures { λ r. ⌜ now (s .exit) ≡ over (now (s .entry)) to (4 * n) (part (now (s .entry)) from (4 * n)) ⌝ }
-{
-    for i in 0..n {
-        let word = u32_at(s, from + 4 * i);
-        put_u32(s, to + 4 * i, word);
-    }
-}
-
-// Puts a record, a request and its marks, at a byte.
-pub fn put_record(table: &mut [u8], at: usize, request: &[u8], marks: RuleSet)
-    requires { ⌜ (at + recordBytes ≤ length (now table)) × (length (now request) ≡ requestBytes) ⌝ }
-    ensures { λ r. ⌜ now (table .exit) ≡ over (now (table .entry)) at recordBytes (now (request .entry) ++ bytes4 (marks .0)) ⌝ }
-{
-    copy_words(table, at, request, REQUEST_WORDS);
-    put_u32(table, at + MARKS_AT, marks.0);
-}
-
-// Puts the record that begins at one byte at another that is not behind it, with these marks.
-pub fn move_record(table: &mut [u8], from: usize, to: usize, marks: RuleSet)
-    requires { ⌜ (to ≤ from) × (from + recordBytes ≤ length (now table)) ⌝ }
-    ensures { λ r. ⌜ now (table .exit) ≡ over (now (table .entry)) to recordBytes (part (now (table .entry)) from requestBytes ++ bytes4 (marks .0)) ⌝ }
-{
-    move_words(table, from, to, REQUEST_WORDS);
-    put_u32(table, to + MARKS_AT, marks.0);
-}
-
-// Puts other marks on the record that begins at a byte.
-pub fn put_marks(table: &mut [u8], at: usize, marks: RuleSet)
-    requires { ⌜ at + recordBytes ≤ length (now table) ⌝ }
-    ensures { λ r. ⌜ now (table .exit) ≡ over (now (table .entry)) at recordBytes (part (now (table .entry)) at requestBytes ++ bytes4 (marks .0)) ⌝ }
-{
-    put_u32(table, at + MARKS_AT, marks.0);
+    seal_blocks(table, stamp, 0, BlockSet::none().with_range(0, total))
 }

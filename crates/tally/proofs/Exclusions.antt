@@ -17,7 +17,7 @@ use Rattle.format.specs.Rule.{Exclusion, exclusionAt, samePrivilege, blankPrivi
 use Rattle.judge.specs.Tally.{does, countsFor, roleTally, timesListed, timesDone, repeats, privilegeTally, tally}
 use Rattle.tally.specs.declared.tallies.Tally.{Tally}
 use Rattle.tally.specs.Code.{TallyOf, memberAt, rolesAmong, listed, repeated, memberCounts, membersCount}
-use Rattle.tally.proofs.Sums.{sumBelow-same}
+use Rattle.word_laws.proofs.Below.{sumBelow-same}
 use Rattle.tally.proofs.Privileges.{packed-same}
 
 -- ---- what the check of an exclusion says of it

@@ -15,8 +15,8 @@ use Rattle.format.specs.Request.{Request}
 use Rattle.format.specs.Policy.{policyFault, policyOf, stamp}
 use Rattle.format.specs.Table.{tableFault, recordsOf, tableImage}
 use Rattle.judge.specs.NewTable.{openIn, grantOf, tableAfter}
-use Rattle.matching.specs.declared.masks.Each.{Each}
-use Rattle.matching.specs.declared.rules.Effect.{Effect}
+use Rattle.fields.specs.declared.sets.RuleSet.{RuleSet}
+use Rattle.clearing.specs.declared.ending.Ending.{Ending}
 use Rattle.matching.specs.Masks.{EachOf}
 use Rattle.matching.specs.Sets.{EffectIs}
 use Rattle.update.specs.declared.grant.Updated.{Updated}
@@ -29,13 +29,13 @@ answerOf (Granted g) = grant (g .recorded) (g .removed) (g .held)
 
 -- what the code is given, under a policy: it is accepted, and its stamp is t; the table is accepted, and has n records; the four masks are the
 -- policy's; and what a grant of the request ends and gives is what step 4 says
-pub record Judged (policy : List ℕ) (t : Sums) (e : Each) (effect : Effect) (q : Request) (table : List ℕ) (n : ℕ) : Type 0 where
+pub record Judged (policy : List ℕ) (t : Sums) (e : Ending) (given : RuleSet) (q : Request) (table : List ℕ) (n : ℕ) : Type 0 where
   pub accepted : policyFault policy ≡ none
   pub stamp-is : t ≡ stamp policy
   pub accepted-table : tableFault policy table ≡ none
   pub held-are : n ≡ length (recordsOf table)
-  pub masks : EachOf (policyOf policy) e
-  pub effect-is : EffectIs (policyOf policy) q (openIn (policyOf policy) (recordsOf table) q) effect
+  pub masks : EachOf (policyOf policy) (e .each)
+  pub effect-is : EffectIs (policyOf policy) q (openIn (policyOf policy) (recordsOf table) q) (record { ends = e .rules; gives = given })
 
 -- what a request that has passed steps 1 to 3 gets: the refusal 34 and the table as it was, or the grant and the new table
 unfoldable pub updateOf : List ℕ → List ℕ → List ℕ → Outcome (List ℕ)

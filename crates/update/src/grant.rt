@@ -9,19 +9,20 @@ ghost use Rattle.sums.specs.Code.{sumsOf};
 ghost use Rattle.format.specs.Layout.{requestBytes, tableBlocks, capacity};
 ghost use Rattle.format.specs.Answer.{grant, Outcome};
 ghost use Rattle.format.specs.Block.{blocks};
-ghost use Rattle.format.specs.Table.{tableImage};
+ghost use Rattle.format.specs.Table.{tableImage, recordsOf};
 ghost use Rattle.format.specs.Records.{recordsHere};
+ghost use Rattle.format.specs.Altered.{alteredBlocks};
 ghost use Rattle.fields.specs.Code.{HasRoom};
+ghost use Rattle.matching.specs.Masks.{NearOf};
 ghost use Rattle.clearing.specs.Cleared.{AllMarked};
 ghost use Rattle.update.specs.Updating.{answerOf, Judged, updateOf};
 use crate::table_after::write_after;
+use clearing::ending::Ending;
 use clearing::room::has_room;
 use fields::layout::BLOCK_BYTES;
 use fields::sets::RuleSet;
 use fields::tables::Blocks;
 use format::answer::Grant;
-use matching::masks::Each;
-use matching::rules::Effect;
 use sums::sum::Sum;
 
 // What steps 4 and 5 answer.
@@ -49,24 +50,37 @@ pub fn granted(n: usize, gives: RuleSet, held: usize) -> Updated
     })
 }
 
+// What steps 4 and 5 answer, and how many blocks they wrote.
+pub struct Changed {
+    pub updated: Updated,
+    pub written: usize,
+}
+
 // The table after a request that steps 1 to 3 let pass, by what a grant of it ends and gives. The table is the image of n records with marks.
 pub fn update(
     stamp: Sum,
-    each: Each,
-    effect: Effect,
+    ending: Ending,
+    gives: RuleSet,
     q: &[u8],
     table: &mut [u8],
     n: usize,
-) -> Updated
+) -> Changed
     requires { ⌜ length (now q) ≡ requestBytes ⌝ }
     requires { ⌜ (HasRoom (now table) n) × (AllMarked (now table) n) ⌝ }
+    requires { ⌜ NearOf (ending .each) (ending .rules .0) (now q) (now table) n (ending .near) ⌝ }
     requires { ⌜ now table ≡ tableImage (sumsOf stamp) (blocks (now table)) (recordsHere (now table) n) ⌝ }
-    ensures { λ r. ⌜ ((policy : List ℕ) → Judged policy (sumsOf stamp) each effect (now (q .entry)) (now (table .entry)) n → _≡_ {A = Outcome (List ℕ)} (record { answer = answerOf r; state = now (table .exit) }) (updateOf policy (now (table .entry)) (now (q .entry)))) ⌝ }
+    ensures { λ r. ⌜ ((policy : List ℕ) → Judged policy (sumsOf stamp) ending gives (now (q .entry)) (now (table .entry)) n → (_≡_ {A = Outcome (List ℕ)} (record { answer = answerOf (r .updated); state = now (table .exit) }) (updateOf policy (now (table .entry)) (now (q .entry)))) × (r .written ≡ alteredBlocks (blocks (now (table .entry))) (recordsOf (now (table .entry))) (recordsOf (now (table .exit))))) ⌝ }
 {
     let room = Blocks(table.len() / BLOCK_BYTES).capacity();
-    if !has_room(each, effect, q, table, n, room) {
-        return Updated::Full;
+    if !has_room(ending, gives, q, table, n, room) {
+        return Changed {
+            updated: Updated::Full,
+            written: 0,
+        };
     }
-    let held = write_after(stamp, each, effect, q, table, n);
-    granted(n, effect.gives, held)
+    let after = write_after(stamp, ending, gives, q, table, n);
+    Changed {
+        updated: granted(n, gives, after.held),
+        written: after.blocks,
+    }
 }

@@ -1,77 +1,73 @@
-// The table after a grant: records that lose their last mark go, and the request is put behind the others. Only blocks that change are written.
+// The table after a grant: records that lose their last mark go, and the request is put behind the others. Only blocks whose records differ are written.
 ghost use mathlib.Core.Path.{_≡_};
-ghost use mathlib.Core.List.{_++_};
-ghost use Prim.Native.Nat.{_<_, _≤_};
+ghost use mathlib.Core.Bool.{cond};
+ghost use mathlib.Core.List.{List, [], _∷_, _++_};
+ghost use Prim.Native.Nat.{ℕ, _+_, _≤_};
+ghost use lib.Dec.{eqb};
 ghost use lib.ListN.{length};
-ghost use Rattle.words.specs.Bytes.{bytes4};
 ghost use Rattle.sums.specs.Code.{sumsOf};
-ghost use Rattle.format.specs.Layout.{recordBytes, requestBytes, capacity};
-ghost use Rattle.format.specs.Block.{blocks};
+ghost use Rattle.format.specs.Layout.{requestBytes, capacity};
+ghost use Rattle.format.specs.Block.{blocks as blocksOf};
 ghost use Rattle.format.specs.Table.{tableImage};
-ghost use Rattle.format.specs.Records.{recordStart, recordsHere};
+ghost use Rattle.format.specs.Records.{recordsHere};
+ghost use Rattle.format.specs.Altered.{alteredBlocks};
+ghost use Rattle.judge.specs.NewTable.{sweep};
 ghost use Rattle.fields.specs.Code.{HasRoom};
-ghost use Rattle.table_write.specs.Writing.{over, noBlock, KeptBut};
-ghost use Rattle.clearing.specs.Cleared.{leftBy, afterBy, AllMarked};
-use clearing::clearing::clear_marks;
-use clearing::sweeping::Swept;
-use clearing::sweeping::sweep;
+ghost use Rattle.matching.specs.Masks.{NearOf};
+ghost use Rattle.table_write.specs.Writing.{Placed};
+ghost use Rattle.clearing.specs.Cleared.{afterBy, AllMarked};
+use clearing::ending::Ending;
+use clearing::settling::Settled;
+use clearing::settling::settle;
 use fields::sets::RuleSet;
-use fields::tables::Blocks;
-use fields::tables::record_start;
-use matching::masks::Each;
-use matching::rules::Effect;
 use sums::sum::Sum;
-use table_write::write::put_record;
+use table_write::places::place_request;
+use table_write::places::with_resized;
 use table_write::write::seal_blocks;
 
-// Clears the marks of the rules that end, and sweeps away the records that have none left. Where no mark is cleared, no record goes.
-fn remove(each: Each, ends: RuleSet, q: &[u8], table: &mut [u8], n: usize) -> Swept
+// What was written: how many records the table holds now, and how many of its blocks were written.
+pub struct Written {
+    pub held: usize,
+    pub blocks: usize,
+}
+
+// Puts the request behind the records that are left, if it has a mark.
+fn append(table: &mut [u8], left: Settled, q: &[u8], gives: RuleSet) -> Settled
     requires { ⌜ length (now q) ≡ requestBytes ⌝ }
-    requires { ⌜ (HasRoom (now table) n) × (AllMarked (now table) n) ⌝ }
-    ensures { λ r. ⌜ (recordsHere (now (table .exit)) (r .held) ≡ leftBy each (now (q .entry)) (ends .0) (recordsHere (now (table .entry)) n)) × (KeptBut (now (table .entry)) n noBlock (now (table .exit)) (r .held) (r .changed)) ⌝ }
+    requires { ⌜ HasRoom (now table) (left .held + cond (eqb (gives .0) 0) 0 1) ⌝ }
+    ensures { λ r. ⌜ (recordsHere (now (table .exit)) (r .held) ≡ recordsHere (now (table .entry)) (left .held) ++ sweep (record { request = now (q .entry); marks = gives .0 } ∷ [])) × ((s : List ℕ) → Placed s (now (table .entry)) (left .held) (left .changed) → Placed s (now (table .exit)) (r .held) (r .changed)) ⌝ }
 {
-    let changed = clear_marks(each, ends, q, table, n);
-    if changed.is_empty() {
-        return Swept { held: n, changed };
+    if gives.is_empty() {
+        return left;
     }
-    sweep(table, n, changed)
+    let held = left.held;
+    let changed = place_request(table, held, q, gives, left.changed);
+    Settled {
+        held: held + 1,
+        changed,
+    }
 }
 
-// Puts the request with its marks behind n records.
-pub fn append(table: &mut [u8], n: usize, q: &[u8], gives: RuleSet)
-    requires { ⌜ (HasRoom (now table) n) × (n < capacity (blocks (now table))) ⌝ }
-    requires { ⌜ length (now q) ≡ requestBytes ⌝ }
-    ensures { λ r. ⌜ now (table .exit) ≡ over (now (table .entry)) (recordStart n) recordBytes (now (q .entry) ++ bytes4 (gives .0)) ⌝ }
-{
-    put_record(table, record_start(n), q, gives);
-}
-
-// Writes the table after a grant, and says how many records it holds.
+// Writes the table after a grant.
 pub fn write_after(
     stamp: Sum,
-    each: Each,
-    effect: Effect,
+    ending: Ending,
+    gives: RuleSet,
     q: &[u8],
     table: &mut [u8],
     n: usize,
-) -> usize
+) -> Written
     requires { ⌜ length (now q) ≡ requestBytes ⌝ }
     requires { ⌜ (HasRoom (now table) n) × (AllMarked (now table) n) ⌝ }
-    requires { ⌜ now table ≡ tableImage (sumsOf stamp) (blocks (now table)) (recordsHere (now table) n) ⌝ }
-    requires { ⌜ length (afterBy each (now q) (effect .ends .0) (effect .gives .0) (recordsHere (now table) n)) ≤ capacity (blocks (now table)) ⌝ }
-    ensures { λ r. ⌜ (now (table .exit) ≡ tableImage (sumsOf stamp) (blocks (now (table .entry))) (afterBy each (now (q .entry)) (effect .ends .0) (effect .gives .0) (recordsHere (now (table .entry)) n))) × (r ≡ length (afterBy each (now (q .entry)) (effect .ends .0) (effect .gives .0) (recordsHere (now (table .entry)) n))) ⌝ }
+    requires { ⌜ NearOf (ending .each) (ending .rules .0) (now q) (now table) n (ending .near) ⌝ }
+    requires { ⌜ now table ≡ tableImage (sumsOf stamp) (blocksOf (now table)) (recordsHere (now table) n) ⌝ }
+    requires { ⌜ length (afterBy (ending .each) (now q) (ending .rules .0) (gives .0) (recordsHere (now table) n)) ≤ capacity (blocksOf (now table)) ⌝ }
+    ensures { λ r. ⌜ (now (table .exit) ≡ tableImage (sumsOf stamp) (blocksOf (now (table .entry))) (afterBy (ending .each) (now (q .entry)) (ending .rules .0) (gives .0) (recordsHere (now (table .entry)) n))) × (r .held ≡ length (afterBy (ending .each) (now (q .entry)) (ending .rules .0) (gives .0) (recordsHere (now (table .entry)) n))) × (r .blocks ≡ alteredBlocks (blocksOf (now (table .entry))) (recordsHere (now (table .entry)) n) (afterBy (ending .each) (now (q .entry)) (ending .rules .0) (gives .0) (recordsHere (now (table .entry)) n))) ⌝ }
 {
-    let left = remove(each, effect.ends, q, table, n);
-    if effect.gives.is_empty() {
-        seal_blocks(table, stamp, left.held, left.changed);
-        return left.held;
-    }
-    append(table, left.held, q, effect.gives);
-    seal_blocks(
-        table,
-        stamp,
-        left.held + 1,
-        left.changed.with(left.held / Blocks::RECORDS),
-    );
-    left.held + 1
+    let left = settle(ending, q, table, n);
+    let after = append(table, left, q, gives);
+    let held = after.held;
+    let changed = with_resized(after.changed, n, held);
+    let blocks = seal_blocks(table, stamp, held, changed);
+    Written { held, blocks }
 }

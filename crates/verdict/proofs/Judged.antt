@@ -110,6 +110,17 @@ module _ (policy : List ℕ) (q : Request) (fitting : ℕ) (fitting-are : fittin
     unfolding judges
     judging-fits i h e = fits-bit i h ∙ both-first _ _ (sym (bit-judges i h) ∙ e)
 
+    -- so a rule that ends fits
+    pub ending-fits : (e : Effect) → EffectIs (policyOf policy) q (openIn (policyOf policy) rs q) e → (i : ℕ) → bit i (e .ends .0) ≡ true → bit i fitting ≡ true
+    unfolding ends judges policyOf
+    ending-fits e is i on = go (decLt i (ruleCount policy))
+      where
+        go : Dec (i < ruleCount policy) → bit i fitting ≡ true
+        go (yes h) =
+            let last = sym (bit-bits (ruleCount policy) _ i h) ∙ sym (ap (bit i) (is .ends-are)) ∙ on in
+            fits-bit i h ∙ both-first _ _ (both-first _ _ last)
+        go (no h) = absurd (false≢true (sym (ap (bit i) (is .ends-are) ∙ bit-beyond (ruleCount policy) _ i (omega arith)) ∙ on))
+
     module _ (each : Each) (table found : List ℕ) where
       -- what the search asks of the rules past the policy's
       row-past : (i : ℕ) → ruleCount policy ≤ i → ruleFails policy rules each q table found i ≡ none

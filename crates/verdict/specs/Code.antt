@@ -16,13 +16,13 @@ use Rattle.format.specs.Block.{block, kind}
 use Rattle.format.specs.Request.{Request}
 use Rattle.format.specs.Rule.{exclusionAt}
 use Rattle.format.specs.Policy.{Policy, Permission, policyFault, ruleCount, permissionAt, entries}
-use Rattle.format.specs.Table.{Record}
+use Rattle.format.specs.Records.{recordsHere}
 use Rattle.format.specs.Code.{faultOf}
 use Rattle.judge.specs.Tally.{reached, exclusionNumber}
 use Rattle.judge.specs.Verdict.{verdict}
 use Rattle.judge.specs.NewTable.{openIn, pastIn}
 use Rattle.matching.specs.declared.masks.Each.{Each}
-use Rattle.matching.specs.Masks.{EachOf}
+use Rattle.matching.specs.Masks.{NearOf}
 use Rattle.matching.specs.Sets.{EffectIs}
 use Rattle.history.specs.Code.{pastBy}
 use Rattle.verdict.specs.declared.search.Failing.{Failing}
@@ -70,8 +70,9 @@ abbrev pub FoundAt : List ℕ → Failing → Type 0
 FoundAt policy Nowhere = Unit {0}
 FoundAt policy (At i e) = (i < mostRules) × (e < mostExclusions) × (blockBytes * i + blockBytes ≤ length policy)
 
--- ---- steps 1 to 3 over a table's records: the verdict; the masks; and, where nothing is against the request, what a grant ends and gives
-pub record VerdictIs (p : Policy) (rs : List Record) (q : Request) (v : Verdict) : Type 0 where
-  pub faults : faultOf (v .fault) ≡ verdict p q (openIn p rs q) (pastIn p rs q)
-  pub each-is : EachOf p (v .each)
-  pub effect-is : faultOf (v .fault) ≡ none → EffectIs p q (openIn p rs q) (v .effect)
+-- ---- steps 1 to 3 over the first n records of a table: the verdict; and, where nothing is against the request, what a grant ends and gives, and
+-- blocks outside which no record loses a mark, by the masks e
+pub record VerdictIs (p : Policy) (e : Each) (s : List ℕ) (n : ℕ) (q : Request) (v : Verdict) : Type 0 where
+  pub faults : faultOf (v .fault) ≡ verdict p q (openIn p (recordsHere s n) q) (pastIn p (recordsHere s n) q)
+  pub effect-is : faultOf (v .fault) ≡ none → EffectIs p q (openIn p (recordsHere s n) q) (v .effect)
+  pub near-is : faultOf (v .fault) ≡ none → NearOf e (v .effect .ends .0) q s n (v .near)

@@ -7,7 +7,6 @@ ghost use lib.ListN.{length, getD};
 ghost use Rattle.words.specs.First.{first};
 ghost use Rattle.format.specs.Layout.{requestBytes, recordBytes, mostRules, tableBlocks, capacity};
 ghost use Rattle.format.specs.Policy.{policyFault, policyOf};
-ghost use Rattle.format.specs.Records.{recordsHere};
 ghost use Rattle.format.specs.Code.{faultOf};
 ghost use Rattle.judge.specs.Verdict.{permitted as permittedBy};
 ghost use Rattle.fields.specs.Code.{HasRoom};
@@ -19,6 +18,7 @@ use crate::permits::permitted;
 use crate::search::Judging;
 use crate::search::fault_of;
 use crate::search::first_failing;
+use fields::blocks::BlockSet;
 use fields::layout::TABLE_BLOCKS;
 use fields::sets::RuleSet;
 use fields::tables::Blocks;
@@ -26,7 +26,6 @@ use format::answer::Fault;
 use format::answer::Refusal;
 use history::finding::find;
 use matching::masks::Each;
-use matching::masks::each_of;
 use matching::rules::Effect;
 use matching::rules::Matched;
 use matching::rules::match_rules;
@@ -41,11 +40,11 @@ const FEW: usize = 60;
 
 const FEW_WORDS: usize = 2 * FEW;
 
-// The verdict; with none against the request, what a grant ends and gives; and the masks by which its records are cleared.
+// The verdict; with none against the request, what a grant ends and gives, and blocks outside which it clears no mark.
 pub struct Verdict {
     pub fault: Fault,
     pub effect: Effect,
-    pub each: Each,
+    pub near: BlockSet,
 }
 
 // What a request is to the rules of a policy, and the masks that tell their run places apart.
@@ -104,18 +103,19 @@ fn judged(
     requires { ⌜ (MatchedIs (policyOf (now policy)) (now q) (asked .matched)) × (EachOf (policyOf (now policy)) (asked .each)) ⌝ }
     requires { ⌜ (length (now q) ≡ requestBytes) × (n ≤ length (now found)) ⌝ }
     requires { ⌜ HasRoom (now table) n ⌝ }
-    ensures { λ r. ⌜ VerdictIs (policyOf (now (policy .entry))) (recordsHere (now (table .entry)) n) (now (q .entry)) r ⌝ }
+    ensures { λ r. ⌜ VerdictIs (policyOf (now (policy .entry))) (asked .each) (now (table .entry)) n (now (q .entry)) r ⌝ }
 {
     let each = asked.each;
     let matched = asked.matched;
     let seen = find(each, matched.fitting, q, table, n, found);
     let count = seen.count;
+    let near = seen.near;
     let rules = matched.judging(seen.open);
     let fault = search_fault(policy, Judging { rules, each }, q, table, &found[0..count]);
     Verdict {
         fault,
         effect: matched.effect(rules),
-        each,
+        near,
     }
 }
 
@@ -125,7 +125,7 @@ fn judged_few(policy: &[u8], asked: Asked, q: &[u8], table: &[u8], n: usize) -> 
     requires { ⌜ (MatchedIs (policyOf (now policy)) (now q) (asked .matched)) × (EachOf (policyOf (now policy)) (asked .each)) ⌝ }
     requires { ⌜ (length (now q) ≡ requestBytes) × (n ≤ fewRecords) ⌝ }
     requires { ⌜ HasRoom (now table) n ⌝ }
-    ensures { λ r. ⌜ VerdictIs (policyOf (now (policy .entry))) (recordsHere (now (table .entry)) n) (now (q .entry)) r ⌝ }
+    ensures { λ r. ⌜ VerdictIs (policyOf (now (policy .entry))) (asked .each) (now (table .entry)) n (now (q .entry)) r ⌝ }
 {
     let mut found = [0u16; FEW];
     judged(policy, asked, q, table, n, &mut found[0..FEW])
@@ -137,7 +137,7 @@ fn judged_many(policy: &[u8], asked: Asked, q: &[u8], table: &[u8], n: usize) ->
     requires { ⌜ (MatchedIs (policyOf (now policy)) (now q) (asked .matched)) × (EachOf (policyOf (now policy)) (asked .each)) ⌝ }
     requires { ⌜ length (now q) ≡ requestBytes ⌝ }
     requires { ⌜ HasRoom (now table) n ⌝ }
-    ensures { λ r. ⌜ VerdictIs (policyOf (now (policy .entry))) (recordsHere (now (table .entry)) n) (now (q .entry)) r ⌝ }
+    ensures { λ r. ⌜ VerdictIs (policyOf (now (policy .entry))) (asked .each) (now (table .entry)) n (now (q .entry)) r ⌝ }
 {
     let mut found = [0u16; MOST];
     judged(policy, asked, q, table, n, &mut found[0..MOST])
@@ -153,14 +153,20 @@ fn no_effect() -> Effect
     }
 }
 
-// Steps 1 to 3 over the n records of a table. A request that fits no rule is done after step 1.
-pub fn verdict_of(policy: &[u8], checked: Checked, q: &[u8], table: &[u8], n: usize) -> Verdict
-    requires { ⌜ CheckedIs (now policy) checked ⌝ }
+// Steps 1 to 3 over the n records of a table, by the masks that tell run places apart. A request that fits no rule is done after step 1.
+pub fn verdict_of(
+    policy: &[u8],
+    checked: Checked,
+    each: Each,
+    q: &[u8],
+    table: &[u8],
+    n: usize,
+) -> Verdict
+    requires { ⌜ (CheckedIs (now policy) checked) × (EachOf (policyOf (now policy)) each) ⌝ }
     requires { ⌜ length (now q) ≡ requestBytes ⌝ }
     requires { ⌜ HasRoom (now table) n ⌝ }
-    ensures { λ r. ⌜ VerdictIs (policyOf (now (policy .entry))) (recordsHere (now (table .entry)) n) (now (q .entry)) r ⌝ }
+    ensures { λ r. ⌜ VerdictIs (policyOf (now (policy .entry))) each (now (table .entry)) n (now (q .entry)) r ⌝ }
 {
-    let each = each_of(policy, checked);
     if !permitted(policy, q) {
         return Verdict {
             fault: Fault::At(Refusal {
@@ -169,7 +175,7 @@ pub fn verdict_of(policy: &[u8], checked: Checked, q: &[u8], table: &[u8], n: us
                 second: 0,
             }),
             effect: no_effect(),
-            each,
+            near: BlockSet::none(),
         };
     }
     let matched = match_rules(policy, checked, q);
@@ -177,7 +183,7 @@ pub fn verdict_of(policy: &[u8], checked: Checked, q: &[u8], table: &[u8], n: us
         return Verdict {
             fault: Fault::Nothing,
             effect: no_effect(),
-            each,
+            near: BlockSet::none(),
         };
     }
     if n <= FEW {

@@ -13,3 +13,4 @@ pub mod Bits
 pub mod BitLaws
 pub mod Lowest
 pub mod Sums
+pub mod Below

@@ -1,12 +1,14 @@
 -- `sameList` tells equal lists of numbers from others.
 -- Assumes nothing.
 use Prim.Native.Nat.{ℕ, zero, suc, _+_}
+use native.Mathlib.Omega.{arith}
 use native.Mathlib.Nat.{add-zero, zero-add, add-suc, suc-add}
 use mathlib.Core.Path.{_≡_, refl, sym, ap, _∙_}
 use mathlib.Core.Bool.{Bool, true, false, _&&_, and-assoc, and-true}
-use mathlib.Core.List.{List, [], _∷_}
+use mathlib.Core.List.{List, [], _∷_, _++_}
 use borrow.Author.Tests.{eqb-true, eq-eqb}
 use lib.Dec.{eqb}
+use lib.ListN.{length}
 use Rattle.words.specs.Lists.{allBelow, tab, sameList}
 use Rattle.word_laws.proofs.Tests.{allBelow-same}
 
@@ -32,6 +34,15 @@ same-swap xs ys e = go (sameList ys xs) refl
     go : (b : Bool) → sameList ys xs ≡ b → b ≡ false
     go true t = sym (same-refl xs) ∙ ap (sameList xs) (sym (same-eq ys xs t)) ∙ e
     go false t = refl
+
+-- lists in two parts, the first of them equally long
+pub same-append : (xs ys xs′ ys′ : List ℕ) → length xs ≡ length ys → sameList (xs ++ xs′) (ys ++ ys′) ≡ sameList xs ys && sameList xs′ ys′
+unfolding sameList
+same-append [] [] xs′ ys′ e = refl
+same-append [] (y ∷ ys) xs′ ys′ e = cc
+same-append (x ∷ xs) [] xs′ ys′ e = cc
+same-append (x ∷ xs) (y ∷ ys) xs′ ys′ e =
+    rw (same-append xs ys xs′ ys′ (omega (arith, e))) (sym (and-assoc (eqb x y) (sameList xs ys) (sameList xs′ ys′)))
 
 -- ---- lists that are made by index
 

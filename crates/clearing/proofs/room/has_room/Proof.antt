@@ -17,7 +17,7 @@ use Rattle.clearing.proofs.room.has_room.Tie as tie
 held : (e : tie.After-is-empty) → ℕ
 held e =
     let a = e .before .before .before .args in
-    length (afterBy (a .each) (a .q .now) (a .effect .ends .0) (a .effect .gives .0) (recordsHere (a .table .now) (a .n)))
+    length (afterBy (a .ending .each) (a .q .now) (a .ending .rules .0) (a .gives .0) (recordsHere (a .table .now) (a .n)))
 
 is-empty-requires : tie.Need-is-empty-requires
 is-empty-requires c κs = search needs
@@ -31,9 +31,9 @@ returns c =
     sym (le-leb (held e) (a .room)
     (omega (
       arith,
-      after-few (a .each) (a .q .now) (a .effect .ends .0) (a .effect .gives .0) (recordsHere (a .table .now) (a .n)),
+      after-few (a .ending .each) (a .q .now) (a .ending .rules .0) (a .gives .0) (recordsHere (a .table .now) (a .n)),
       length-here (a .table .now) (a .n),
-      recorded-none (a .effect .gives .0) (eqb-true (a .effect .gives .0) 0 (sym (e .is-empty .ensures) ∙ c .if1 .taken)),
+      recorded-none (a .gives .0) (eqb-true (a .gives .0) 0 (sym (e .is-empty .ensures) ∙ c .if1 .taken)),
       s .pre .0 .1,
     )))
 
@@ -45,9 +45,9 @@ returns-2 c =
     sym (le-leb (held e) (a .room)
     (omega (
       arith,
-      after-few (a .each) (a .q .now) (a .effect .ends .0) (a .effect .gives .0) (recordsHere (a .table .now) (a .n)),
+      after-few (a .ending .each) (a .q .now) (a .ending .rules .0) (a .gives .0) (recordsHere (a .table .now) (a .n)),
       length-here (a .table .now) (a .n),
-      recorded-one (a .effect .gives .0) (eqb-false (a .effect .gives .0) 0 (sym (e .is-empty .ensures) ∙ c .before .if1 .left)),
+      recorded-one (a .gives .0) (eqb-false (a .gives .0) 0 (sym (e .is-empty .ensures) ∙ c .before .if1 .left)),
       c .if2 .taken,
     )))
 
@@ -59,8 +59,8 @@ returns-3 c =
     let g = c .before .before in
     let e = g .before in
     let a = e .before .before .before .args in
-    let some = eqb-false (a .effect .gives .0) 0 (sym (e .is-empty .ensures) ∙ g .if1 .left) in
-    counted-room (a .each) (a .q .now) (a .effect .ends .0) (a .effect .gives .0) (recordsHere (a .table .now) (a .n)) some (c .kept .result) (a .room) (c .kept .ensures)
+    let some = eqb-false (a .gives .0) 0 (sym (e .is-empty .ensures) ∙ g .if1 .left) in
+    counted-room (a .ending .each) (a .q .now) (a .ending .rules .0) (a .gives .0) (recordsHere (a .table .now) (a .n)) some (c .kept .result) (a .room) (c .kept .ensures)
 
 pub has-room-spec : {M : Type 1} → statement M
 has-room-spec = tie.close (tie.spec is-empty-requires returns returns-2 kept-requires returns-3)

@@ -23,9 +23,9 @@ returns c =
     let e = c .before in
     let k = e .before in
     let a = k .before .before .before .args in
-    let none = eqb-true (a .effect .gives .0) 0 (sym (e .is-empty .ensures) ∙ c .if1 .taken) in
+    let none = eqb-true (a .gives .0) 0 (sym (e .is-empty .ensures) ∙ c .if1 .taken) in
     k .kept .ensures
-    ∙ sym (ap length (after-none (a .each) (a .q .now) (a .effect .ends .0) (a .effect .gives .0) (recordsHere (a .table .now) (a .n)) none))
+    ∙ sym (ap length (after-none (a .ending .each) (a .q .now) (a .ending .rules .0) (a .gives .0) (recordsHere (a .table .now) (a .n)) none))
 
 add-result : tie.Need-add-result
 add-result c =
@@ -36,10 +36,10 @@ add-result c =
       fits = omega (
         arith,
         k .kept .ensures,
-        left-few (a .each) (a .q .now) (a .effect .ends .0) (recordsHere (a .table .now) (a .n)),
+        left-few (a .ending .each) (a .q .now) (a .ending .rules .0) (recordsHere (a .table .now) (a .n)),
         length-here (a .table .now) (a .n),
-        s .pre .1 .0 .few,
-        s .pre .1 .0 .most,
+        s .pre .1 .0 .0 .few,
+        s .pre .1 .0 .0 .most,
       );
     }
 
@@ -48,9 +48,9 @@ returns-2 c =
     let e = c .before in
     let k = e .before in
     let a = k .before .before .before .args in
-    let some = eqb-false (a .effect .gives .0) 0 (sym (e .is-empty .ensures) ∙ c .if1 .left) in
+    let some = eqb-false (a .gives .0) 0 (sym (e .is-empty .ensures) ∙ c .if1 .left) in
     ap (λ (m : ℕ). m + 1) (k .kept .ensures)
-    ∙ sym (after-count (a .each) (a .q .now) (a .effect .ends .0) (a .effect .gives .0) (recordsHere (a .table .now) (a .n)) some)
+    ∙ sym (after-count (a .ending .each) (a .q .now) (a .ending .rules .0) (a .gives .0) (recordsHere (a .table .now) (a .n)) some)
 
 pub held-after-spec : {M : Type 1} → statement M
 held-after-spec = tie.close (tie.spec kept-requires is-empty-requires returns add-result returns-2)

@@ -19,8 +19,8 @@ returns c =
     let s = e .before .before .before in
     let a = s .args in
     let rs = recordsHere (a .table .now) (a .n) in
-    let none = eqb-true (a .ends .0) 0 (sym (e .is-empty .ensures) ∙ c .if1 .taken) in
-    let stay : leftBy (a .each) (a .q .now) (a .ends .0) rs ≡ rs = rw none (left-all (a .each) (a .q .now) rs (s .pre .1 .1)) in
+    let none = eqb-true (a .ending .rules .0) 0 (sym (e .is-empty .ensures) ∙ c .if1 .taken) in
+    let stay : leftBy (a .ending .each) (a .q .now) (a .ending .rules .0) rs ≡ rs = rw none (left-all (a .ending .each) (a .q .now) rs (s .pre .1 .0 .1)) in
     sym (ap length stay ∙ length-here (a .table .now) (a .n))
 
 count-kept-requires : tie.Need-count-kept-requires

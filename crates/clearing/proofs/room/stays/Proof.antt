@@ -21,11 +21,11 @@ is-empty-requires : tie.Need-is-empty-requires
 is-empty-requires c κs = search needs
 
 marks-are : (c : tie.After-cleared-marks) → let a = c .before .before .before .before .args in
-    c .cleared-marks .result .0 ≡ clearedBy (a .each) (a .q .now) (a .ends .0) (recordHere (a .table .now) (a .i)) .marks
+    c .cleared-marks .result .0 ≡ clearedBy (a .ending .each) (a .q .now) (a .ending .rules .0) (recordHere (a .table .now) (a .i)) .marks
 marks-are c =
     let a = c .before .before .before .before .args in
     c .cleared-marks .ensures
-    ∙ ap (λ at. clearedBy (a .each) (a .q .now) (a .ends .0) (recordFrom (a .table .now) at) .marks) (c .before .record-start .ensures)
+    ∙ ap (λ at. clearedBy (a .ending .each) (a .q .now) (a .ending .rules .0) (recordFrom (a .table .now) at) .marks) (c .before .record-start .ensures)
 
 returns : tie.Need-returns
 returns c =
@@ -33,7 +33,7 @@ returns c =
     let k = e .before in
     let a = k .before .before .before .before .args in
     let none = eqb-true (k .cleared-marks .result .0) 0 (sym (e .is-empty .ensures) ∙ c .if1 .taken) in
-    (sym (ap length (left-none (a .each) (a .q .now) (a .ends .0) (recordHere (a .table .now) (a .i)) (sym (marks-are k) ∙ none))), omega arith)
+    (sym (ap length (left-none (a .ending .each) (a .q .now) (a .ending .rules .0) (recordHere (a .table .now) (a .i)) (sym (marks-are k) ∙ none))), omega arith)
 
 returns-2 : tie.Need-returns-2
 returns-2 c =
@@ -41,7 +41,7 @@ returns-2 c =
     let k = e .before in
     let a = k .before .before .before .before .args in
     let some = eqb-false (k .cleared-marks .result .0) 0 (sym (e .is-empty .ensures) ∙ c .if1 .left) in
-    (sym (ap length (left-one (a .each) (a .q .now) (a .ends .0) (recordHere (a .table .now) (a .i)) (λ z. some (marks-are k ∙ z)))), omega arith)
+    (sym (ap length (left-one (a .ending .each) (a .q .now) (a .ending .rules .0) (recordHere (a .table .now) (a .i)) (λ z. some (marks-are k ∙ z)))), omega arith)
 
 pub stays-spec : {M : Type 1} → statement M
 stays-spec =

@@ -24,8 +24,8 @@ capacity-requires c κs = omega (arith, good-blocked 128 _ (sym (c .before .good
 fresh-requires : tie.Need-fresh-requires
 fresh-requires c κs = let e = c .before .before in sym (e .before .good-length .ensures) ∙ not-false _ (e .if1 .left)
 
-cast-t16 : tie.Need-cast-t16
-cast-t16 c =
+cast-t15 : tie.Need-cast-t15
+cast-t15 c =
     let e = c .before .before .before .before .before in
     omega (arith, c .before .before .before .before .capacity .ensures, good-blocked 128 _ (sym (e .before .good-length .ensures) ∙ not-false _ (e .if1 .left)) .2)
 
@@ -36,7 +36,7 @@ returns-2 : tie.Need-returns-2
 returns-2 c =
     let e = c .before .before .before .before .before in
     let start = e .before .before .before .before .before in
-    fresh-written _ _ _ _ _ (start .pre .accepted) (sym (e .before .good-length .ensures) ∙ not-false _ (e .if1 .left)) (c .before .before .before .before .capacity .ensures) (c .before .before .fresh .ensures) (start .pre .stamp-is)
+    fresh-written _ _ _ _ _ (start .pre .accepted) (sym (e .before .good-length .ensures) ∙ not-false _ (e .if1 .left)) (c .before .before .before .before .capacity .ensures) (c .before .before .fresh .ensures .0) (start .pre .stamp-is)
 
 pub fresh-reply-spec : {M : Type 1} → statement M
 fresh-reply-spec =
@@ -47,6 +47,6 @@ fresh-reply-spec =
     returns
     capacity-requires
     fresh-requires
-    cast-t16
+    cast-t15
     same-length-2
     returns-2)

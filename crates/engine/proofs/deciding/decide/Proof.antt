@@ -1,69 +1,17 @@
 -- `engine::deciding::decide` meets its contract.
 -- Assumes nothing.
-use mathlib.Core.Path.{ap, _∙_, subst}
 use borrow.Author.Needs.{needs}
-use Rattle.format.specs.Answer.{Answer}
-use Rattle.table_write.proofs.SliceBytes.{slice-bytes}
-use Rattle.update.proofs.Standing.{standing}
-use Rattle.engine.specs.Code.{outcome}
-use Rattle.engine.specs.Examined.{ExaminedIs}
 use Rattle.engine.proofs.deciding.decide.Statement.{statement}
 use Rattle.engine.proofs.deciding.decide.Tie as tie
 
-examine-requires : tie.Need-examine-requires
-examine-requires c κs = search needs
-
-enum-known-examined : tie.Need-enum-known-examined
-enum-known-examined c = search needs
-
-enum-known-examined-2 : tie.Need-enum-known-examined-2
-enum-known-examined-2 c = search needs
-
-update-requires : tie.Need-update-requires
-update-requires c κs =
-    let x = c .before .before .before .before in
-    let k = x .before .before .before in
-    let a = k .before .before .args in
-    let p = subst (ExaminedIs (a .policy .now) (a .table .now) (a .request .now)) (c .before .before .examined2 .given .1) (x .examine .ensures) in
-    let j = p .judged in
-    let stands = standing (slice-bytes _ (k .slice-known .given)) (j .accepted-table) (j .stamp-is) (j .held-are) in
-    (p .sized, ((stands .room, stands .marked), stands .image))
-
-reply-of-requires : tie.Need-reply-of-requires
-reply-of-requires c κs = search needs
+decide-counted-requires : tie.Need-decide-counted-requires
+decide-counted-requires c κs = search needs
 
 same-length : tie.Need-same-length
 same-length c = search needs
 
 returns : tie.Need-returns
-returns c =
-    let x = c .before .before .before in
-    let a = x .before .before .before .before .before .args in
-    subst (ExaminedIs (a .policy .now) (a .table .now) (a .request .now)) (c .before .examined .given .1) (x .examine .ensures)
-
-same-length-2 : tie.Need-same-length-2
-same-length-2 c = search needs
-
-returns-2 : tie.Need-returns-2
-returns-2 c =
-    let u = c .before .before .before in
-    let e = u .before .before .before in
-    let x = e .before .before in
-    let a = x .before .before .before .before .before .args in
-    let p = subst (ExaminedIs (a .policy .now) (a .table .now) (a .request .now)) (e .examined2 .given .1) (x .examine .ensures) in
-    ap (λ (y : Answer). outcome y (u .update .last .1 .1 .1 .1 .0)) (c .reply-of .ensures)
-    ∙ u .update .ensures _ (p .judged) ∙ p .rest
+returns c = search needs
 
 pub decide-spec : {M : Type 1} → statement M
-decide-spec =
-    tie.close
-    (tie.spec
-    examine-requires
-    enum-known-examined
-    enum-known-examined-2
-    update-requires
-    reply-of-requires
-    same-length
-    returns
-    same-length-2
-    returns-2)
+decide-spec = tie.close (tie.spec decide-counted-requires same-length returns)

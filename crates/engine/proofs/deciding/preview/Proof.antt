@@ -29,7 +29,7 @@ foresee-requires c κs =
     let p = subst (ExaminedIs (a .policy .now) (a .table .now) (a .request .now)) (c .before .examined2 .given .1) (x .examine .ensures) in
     let j = p .judged in
     let stands = standing (slice-bytes _ (k .shared-slice-known2 .given)) (j .accepted-table) (j .stamp-is) (j .held-are) in
-    (p .sized, (stands .room, stands .marked))
+    (p .sized, ((stands .room, stands .marked), p .near))
 
 reply-of-requires : tie.Need-reply-of-requires
 reply-of-requires c κs = search needs

@@ -12,29 +12,32 @@ use Rattle.history.proofs.finding.find.Statement.{statement}
 use Rattle.history.proofs.finding.find.Tie as tie
 
 abbrev Inv-loop : tie.InvT-loop
-Inv-loop each fitting q table n found₀ who open₀ count₀ k₀ found «open» count k =
-    (k ≤ n) × Passed each (fitting .0) q table (length found₀) k («open» .0) count found
+Inv-loop each fitting q table n found₀ who open₀ near₀ count₀ k₀ found «open» near count k =
+    (k ≤ n) × Passed each (fitting .0) q table (length found₀) k («open» .0) near count found
 
 abbrev μ-loop : tie.MeasureT-loop
-μ-loop each fitting q table n found₀ who open₀ count₀ k₀ found «open» count k = n - k
+μ-loop each fitting q table n found₀ who open₀ near₀ count₀ k₀ found «open» near count k = n - k
 
 user-requires : tie.Need-user-requires Inv-loop μ-loop
 user-requires c κs = search needs
 
+none-requires : tie.Need-none-requires Inv-loop μ-loop
+none-requires c κs = search needs
+
 loop-holds : tie.Need-loop-holds Inv-loop μ-loop
-loop-holds c = let a = c .before .before .before .before .args in (omega arith, pass-start (a .each) (a .fitting .0) (a .q .now) (a .table .now) (a .found .now))
+loop-holds c = let a = c .before .before .before .before .before .args in (omega arith, pass-start (a .each) (a .fitting .0) (a .q .now) (a .table .now) (c .none .result) (a .found .now))
 
 record-start-requires : tie.Need-record-start-requires Inv-loop μ-loop
 record-start-requires c κs =
-    let s = c .before .before .before .before .before .before in
+    let s = c .before .before .before .before .before .before .before in
     omega (arith, room-few (s .args .table .now) (s .args .n) (s .pre .1), c .before .loop .inv .0)
 
 -- the call, and the loop at hand, from what is known at a point
 abbrev call : tie.After-record-start Inv-loop μ-loop → tie.Start Inv-loop μ-loop
-call c = c .before .before .before .before .before .before .before
+call c = c .before .before .before .before .before .before .before .before
 
 abbrev seen : tie.Then2 Inv-loop μ-loop → tie.After-record-start Inv-loop μ-loop
-seen c = c .before .before .before .before .before .before
+seen c = c .before .before .before .before .before .before .before
 
 -- the record lies in the table, at a byte that two bytes hold
 module _ (c : tie.After-record-start Inv-loop μ-loop) where
@@ -62,7 +65,7 @@ loop-less c = search needs
 
 loop-again : tie.Need-loop-again Inv-loop μ-loop
 loop-again c =
-    let a = c .before .before .before .before .before .before .before .before .before .before .args in (
+    let a = call (c .before .before .before) .args in (
       omega arith,
       pass-apart (a .each) (a .fitting .0) (a .q .now) (a .table .now) (c .before .before .before .record-start .ensures) (c .before .before .shared-at .ensures)
           (c .before .before .before .before .before .loop .inv .1) (sym (c .before .is-empty .ensures) ∙ c .if1 .taken),
@@ -71,8 +74,14 @@ loop-again c =
 or-requires : tie.Need-or-requires Inv-loop μ-loop
 or-requires c κs = search needs
 
+with-requires : tie.Need-with-requires Inv-loop μ-loop
+with-requires c κs =
+    let p = c .before .before .before .before in
+    let s = call p in
+    omega (arith, room-few (s .args .table .now) (s .args .n) (s .pre .1), p .before .loop-test .taken)
+
 same-user-requires : tie.Need-same-user-requires Inv-loop μ-loop
-same-user-requires c κs = omega (arith, inside (c .before .before .before .before))
+same-user-requires c κs = omega (arith, inside (c .before .before .before .before .before))
 
 cast-found : tie.Need-cast-found Inv-loop μ-loop
 cast-found c = omega (arith, low (seen c))
@@ -91,7 +100,7 @@ slice-write-found : tie.Need-slice-write-found Inv-loop μ-loop
 slice-write-found c = spare c
 
 add-count : tie.Need-add-count Inv-loop μ-loop
-add-count c = omega (arith, c .before .before .before .before .before .before .before .before .loop .inv .1 .few)
+add-count c = omega (arith, seen c .before .before .loop .inv .1 .few)
 
 add-k-2 : tie.Need-add-k-2 Inv-loop μ-loop
 add-k-2 c = search needs
@@ -101,22 +110,26 @@ loop-less-2 c = search needs
 
 loop-again-2 : tie.Need-loop-again-2 Inv-loop μ-loop
 loop-again-2 c =
-    let s = c .before .before .before .before .before .before .before .before .before .before .before .before .before in
+    let w = c .before .before in
+    let o = w .before in
+    let e = o .before .before in
+    let p = e .before .before in
+    let s = call p in
     let a = s .args in
-    let l = c .before .before .before .before .before .before .before .before .loop in
-    let here = c .before .before .before .before .before .before .record-start .ensures in
-    let shared = c .before .before .before .before .before .shared-at .ensures in
-    let some = sym (c .before .before .before .before .is-empty .ensures) ∙ c .before .before .before .if1 .left in
-    let x = part (a .table .now) (c .before .before .before .before .before .before .record-start .result) 28 in
-    let who = c .before .before .before .before .before .before .before .before .before .user .ensures in (
+    let l = p .before .before .loop in
+    let here = p .record-start .ensures in
+    let shared = e .before .shared-at .ensures in
+    let some = sym (e .is-empty .ensures) ∙ o .before .if1 .left in
+    let x = part (a .table .now) (p .record-start .result) 28 in
+    let who = p .before .before .before .before .user .ensures in (
       omega arith,
       ⊎-elim
-          (λ w. rw (w .1, w .2)
-          (pass-found (a .each) (a .fitting .0) (a .q .now) (a .table .now) here shared (l .inv .1) some (c .before .before .or .ensures)
-          (of-user (a .q .now) x (s .pre .0 .0) who (c .before .same-user .ensures) (w .0 .taken)) (spare record { before = c .before; if2 = w .0 })))
-          (λ w. rw (w .1, w .2)
-          (pass-other (a .each) (a .fitting .0) (a .q .now) (a .table .now) here shared (l .inv .1) some (c .before .before .or .ensures)
-          (of-user (a .q .now) x (s .pre .0 .0) who (c .before .same-user .ensures) (w .0 .left))))
+          (λ d. rw (d .1, d .2)
+          (pass-found (a .each) (a .fitting .0) (a .q .now) (a .table .now) here shared (l .inv .1) some (o .or .ensures) (w .with .result) (w .with .ensures)
+          (of-user (a .q .now) x (s .pre .0 .0) who (c .before .same-user .ensures) (d .0 .taken)) (spare record { before = c .before; if2 = d .0 })))
+          (λ d. rw (d .1, d .2)
+          (pass-other (a .each) (a .fitting .0) (a .q .now) (a .table .now) here shared (l .inv .1) some (o .or .ensures) (w .with .result) (w .with .ensures)
+          (of-user (a .q .now) x (s .pre .0 .0) who (c .before .same-user .ensures) (d .0 .left))))
           (c .if2 .came),
     )
 
@@ -125,7 +138,7 @@ same-length c = c .before .loop .inv .1 .sized
 
 returns : tie.Need-returns Inv-loop μ-loop
 returns c =
-    let a = c .before .before .before .before .before .before .args in
+    let a = c .before .before .before .before .before .before .before .args in
     pass-end (a .each) (a .fitting .0) (a .q .now) (a .table .now) (omega arith) (c .before .loop .inv .1)
 
 pub find-spec : {M : Type 1} → statement M
@@ -135,6 +148,7 @@ find-spec =
     Inv-loop
     μ-loop
     user-requires
+    none-requires
     loop-holds
     record-start-requires
     shared-at-requires
@@ -143,6 +157,7 @@ find-spec =
     loop-less
     loop-again
     or-requires
+    with-requires
     same-user-requires
     cast-found
     mul-found

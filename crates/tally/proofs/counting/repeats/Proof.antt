@@ -1,6 +1,6 @@
 -- `tally::counting::repeats` meets its contract.
 -- Assumes nothing.
-use Rattle.tally.proofs.Sums.{any-more, any-all}
+use Rattle.word_laws.proofs.Below.{any-more, any-all}
 use Rattle.tally.specs.Code.{memberAt, repeated}
 use Rattle.words.specs.Lists.{anyBelow}
 use lib.Dec.{eqb}

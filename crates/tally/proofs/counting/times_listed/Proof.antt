@@ -1,6 +1,6 @@
 -- `tally::counting::times_listed` meets its contract.
 -- Assumes nothing.
-use Rattle.tally.proofs.Sums.{sum-more, sum-all}
+use Rattle.word_laws.proofs.Below.{sum-more, sum-all}
 use Rattle.tally.specs.Code.{memberAt, listed}
 use Rattle.words.specs.Lists.{sumBelow}
 use mathlib.Core.Bool.{cond}

@@ -32,7 +32,7 @@ granted-requires c κs =
     let h = c .before in
     let s = h .before .before .before .before in
     let a = s .args in
-    (omega (arith, s .pre .1 .0 .most, s .pre .1 .0 .few), omega (arith, held-few (a .each) (a .q .now) (a .effect .ends .0) (a .effect .gives .0) (a .table .now) (a .n) (h .held-after .ensures)))
+    (omega (arith, s .pre .1 .0 .0 .most, s .pre .1 .0 .0 .few), omega (arith, held-few (a .ending .each) (a .q .now) (a .ending .rules .0) (a .gives .0) (a .table .now) (a .n) (h .held-after .ensures)))
 
 returns-2 : tie.Need-returns-2
 returns-2 c policy t j =

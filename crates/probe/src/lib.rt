@@ -1,0 +1,12 @@
+// For our own tests, in an archive of its own: a decision, and how many blocks it wrote. No part of the boundary (crates/sod, include/sod.h).
+ghost use mathlib.Core.Path.{_≡_};
+ghost use Rattle.judge.specs.Decide.{decide as decideOf};
+ghost use Rattle.judge.specs.Written.{decidedBlocks};
+use engine::deciding::decide_counted;
+
+#[no_mangle]
+pub extern "C" fn sod_probe_decide(policy: &[u8], table: &mut [u8], request: &[u8]) -> usize
+    ensures { λ r. ⌜ (now (table .exit) ≡ decideOf (now (policy .entry)) (now (table .entry)) (now (request .entry)) .state) × (r ≡ decidedBlocks (now (policy .entry)) (now (table .entry)) (now (request .entry))) ⌝ }
+{
+    decide_counted(policy, table, request).written
+}
