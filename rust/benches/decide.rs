@@ -14,7 +14,8 @@
 //!
 //! measures an earlier engine, as a shared library, in the same rounds.
 //!
-//! Each decision is then measured as a preview, with the decision itself in the same rounds.
+//! Each decision is then measured as a preview, with the decision itself in the same rounds; and what a
+//! last step costs for each block that it touches ([`touched`]).
 
 #[path = "../tests/support/chance.rs"]
 #[allow(dead_code)]
@@ -24,6 +25,7 @@ mod earlier;
 mod independent;
 #[path = "../tests/support/plain.rs"]
 mod plain;
+mod touched;
 
 use chance::Chance;
 use earlier::Earlier;
@@ -32,10 +34,12 @@ use independent::images::*;
 use independent::{quick, Reply};
 use std::hint::black_box;
 use std::time::Instant;
+use touched::Touched;
 
 fn main() {
-    let typical = Typical::new();
+    let (typical, touched) = (Typical::new(), Touched::new());
     let mut workloads = typical.workloads();
+    workloads.extend(touched.workloads());
     workloads.extend(worst_workloads());
     // `cargo bench --offline -- WORD` measures only the workloads that have the word in their name.
     let word = std::env::args().skip(1).find(|a| !a.starts_with("--"));
@@ -48,6 +52,10 @@ fn main() {
     println!("\nPreviews, beside the engine's decision with the same answer.\n");
     let previews: Vec<Workload> = workloads.iter().filter_map(Workload::preview).collect();
     table(&previews, &Some(Beside::Decision));
+    if word.as_ref().is_none_or(|word| "touched".contains(word)) {
+        println!("\nBlocks touched: last steps on a full table of 128, and what a written block costs.\n");
+        touched.table(&before);
+    }
     if word.is_none() {
         println!("\nGrowth: a refusal by 33 on a full table, by its blocks.\n");
         table(&typical.growth(), &before);
@@ -92,6 +100,9 @@ fn other(i: usize) -> u16 {
     }
 }
 
+/// The width of a workload's name.
+const NAME: usize = 48;
+
 fn table(workloads: &[Workload], beside: &Option<Beside>) {
     heading(beside);
     for workload in workloads {
@@ -101,7 +112,7 @@ fn table(workloads: &[Workload], beside: &Option<Beside>) {
 
 fn heading(beside: &Option<Beside>) {
     print!(
-        "| {:<45} | {:>8} | {:>8} | {:>8} | {:>11} | {:>11} | {:>9} |",
+        "| {:<NAME$} | {:>8} | {:>8} | {:>8} | {:>11} | {:>11} | {:>9} |",
         "workload", "engine", "Rust", "sums", "engine/Rust", "engine/sums", "Rust/sums"
     );
     if let Some(beside) = beside {
@@ -109,7 +120,7 @@ fn heading(beside: &Option<Beside>) {
         print!(" {name:>8} | engine/{name} |");
     }
     print!(
-        "\n|{:-<47}|{:->10}|{:->10}|{:->10}|{:->13}|{:->13}|{:->11}|",
+        "\n|-{:-<NAME$}-|{:->10}|{:->10}|{:->10}|{:->13}|{:->13}|{:->11}|",
         "", ":", ":", ":", ":", ":", ":"
     );
     if beside.is_some() {
@@ -121,7 +132,7 @@ fn heading(beside: &Option<Beside>) {
 fn row(workload: &Workload, beside: &Option<Beside>) {
     let [engine, rust, sums, other] = workload.measure(beside);
     print!(
-        "| {:<45} | {:>8.2} | {:>8.2} | {:>8.2} | {:>11.2} | {:>11.2} | {:>9.2} |",
+        "| {:<NAME$} | {:>8.2} | {:>8.2} | {:>8.2} | {:>11.2} | {:>11.2} | {:>9.2} |",
         workload.name,
         engine,
         rust,
@@ -174,6 +185,8 @@ struct Workload {
     request: Vec<u8>,
     /// What must come of it, so that the right thing is measured.
     expected: Reply,
+    /// How many blocks a decision must write, where that is what is measured.
+    written: Option<u32>,
 }
 
 const ROUNDS: usize = 301;
@@ -190,9 +203,7 @@ impl Workload {
     /// Microseconds for engine, Rust, sums, and what stands beside them if there is something.
     fn measure(&self, beside: &Option<Beside>) -> [f64; 4] {
         self.agree();
-        // As many copies as stay in the caches near the processor.
-        let copies = (256 * 1024 / (self.table.len() + 1)).clamp(1, 64);
-        let mut tables = vec![self.table.clone(); copies];
+        let mut tables = self.copies();
         let mut times = [const { vec![] }; 4];
         for _ in 0..ROUNDS {
             times[0].push(self.time(&mut tables, |w, table| w.by_engine(table)));
@@ -207,6 +218,12 @@ impl Workload {
             });
         }
         times.map(median)
+    }
+
+    /// As many copies of the table as stay in the caches near the processor.
+    fn copies(&self) -> Vec<Vec<u8>> {
+        let copies = (256 * 1024 / (self.table.len() + 1)).clamp(1, 64);
+        vec![self.table.clone(); copies]
     }
 
     /// Microseconds of one call, when each of the tables gets one.
@@ -276,6 +293,22 @@ impl Workload {
             self.name
         );
         assert!(by_engine == by_rust, "{}: the tables differ", self.name);
+        if self.call == Call::Decide {
+            self.agree_on_blocks(&by_engine);
+        }
+    }
+
+    /// The engine's probe and the Rust judge have written the blocks that differ, as many as expected.
+    fn agree_on_blocks(&self, after: &[u8]) {
+        let blocks = self.table.chunks(BLOCK).zip(after.chunks(BLOCK));
+        let differing = blocks.filter(|(before, after)| before != after).count() as u32;
+        let expected = self.written.unwrap_or(differing);
+        let (mut by_probe, mut by_rust) = (self.table.clone(), self.table.clone());
+        let probed = probe::decide(&self.policy, &mut by_probe, &self.request) as u32;
+        let (_, rust) = quick::decide_counting(&self.policy, &mut by_rust, &self.request);
+        let told = [differing, probed, rust];
+        assert_eq!(told, [expected; 3], "{}: blocks", self.name);
+        assert!(by_probe == after, "{}: the probe's table", self.name);
     }
 }
 
@@ -353,61 +386,64 @@ fn request_of(user: u32, role: u16, privilege: Privilege, context: &[(u16, u16)]
 
 /// Eight rules of a works with depots and jobs: every job has rule 1, and those of the first five
 /// depots have a rule of their own, so that a record has one mark or two.
+fn typical_policy() -> Policy {
+    let jobs = Rule {
+        levels: vec![level(DEPOT, Mark::Every), level(JOB, Mark::Each)],
+        first: None,
+        last: Some(privilege(CLOSE)),
+        exclusions: vec![
+            privileges(2, &[ADJUST, CHECK, CHECK]),
+            roles(2, &[1, 2]),
+            privileges(3, &[ADJUST, PACK, CLOSE]),
+        ],
+    };
+    let count = Rule {
+        levels: vec![level(DEPOT, Mark::Each)],
+        first: Some(privilege(BEGIN_COUNT)),
+        last: Some(privilege(END_COUNT)),
+        exclusions: vec![roles(2, &[1, 3])],
+    };
+    let yard = Rule {
+        levels: vec![level(9, Mark::Every)],
+        first: None,
+        last: None,
+        exclusions: vec![roles(2, &[4, 5])],
+    };
+    let of_depot = |depot| Rule {
+        levels: vec![level(DEPOT, Mark::Fixed(depot)), level(JOB, Mark::Each)],
+        first: None,
+        last: Some(privilege(CLOSE)),
+        exclusions: vec![privileges(2, &[CHECK, PACK]), roles(3, &[1, 2, 4])],
+    };
+    let may = |role, operation| Permission {
+        role,
+        privilege: privilege(operation),
+    };
+    Policy {
+        rules: [jobs, count, yard]
+            .into_iter()
+            .chain((1..=5).map(of_depot))
+            .collect(),
+        permissions: vec![vec![
+            may(1, ADJUST),
+            may(2, CHECK),
+            may(4, PACK),
+            may(2, CLOSE),
+            may(3, BEGIN_COUNT),
+            may(3, END_COUNT),
+            may(1, CLEAN),
+        ]],
+    }
+}
+
 struct Typical {
     policy: Vec<u8>,
 }
 
 impl Typical {
     fn new() -> Typical {
-        let jobs = Rule {
-            levels: vec![level(DEPOT, Mark::Every), level(JOB, Mark::Each)],
-            first: None,
-            last: Some(privilege(CLOSE)),
-            exclusions: vec![
-                privileges(2, &[ADJUST, CHECK, CHECK]),
-                roles(2, &[1, 2]),
-                privileges(3, &[ADJUST, PACK, CLOSE]),
-            ],
-        };
-        let count = Rule {
-            levels: vec![level(DEPOT, Mark::Each)],
-            first: Some(privilege(BEGIN_COUNT)),
-            last: Some(privilege(END_COUNT)),
-            exclusions: vec![roles(2, &[1, 3])],
-        };
-        let yard = Rule {
-            levels: vec![level(9, Mark::Every)],
-            first: None,
-            last: None,
-            exclusions: vec![roles(2, &[4, 5])],
-        };
-        let of_depot = |depot| Rule {
-            levels: vec![level(DEPOT, Mark::Fixed(depot)), level(JOB, Mark::Each)],
-            first: None,
-            last: Some(privilege(CLOSE)),
-            exclusions: vec![privileges(2, &[CHECK, PACK]), roles(3, &[1, 2, 4])],
-        };
-        let may = |role, operation| Permission {
-            role,
-            privilege: privilege(operation),
-        };
-        let policy = Policy {
-            rules: [jobs, count, yard]
-                .into_iter()
-                .chain((1..=5).map(of_depot))
-                .collect(),
-            permissions: vec![vec![
-                may(1, ADJUST),
-                may(2, CHECK),
-                may(4, PACK),
-                may(2, CLOSE),
-                may(3, BEGIN_COUNT),
-                may(3, END_COUNT),
-                may(1, CLEAN),
-            ]],
-        };
         Typical {
-            policy: write_policy(&policy),
+            policy: write_policy(&typical_policy()),
         }
     }
 
@@ -441,6 +477,7 @@ impl Typical {
             table: table.to_vec(),
             request,
             expected,
+            written: None,
         }
     }
 
@@ -652,6 +689,7 @@ impl Worst {
             table: self.table.clone(),
             request: request_of(7, 1, privilege(operation), &context),
             expected,
+            written: None,
         };
         let (all, none) = (places(128), Reply::refuse(31, 0, 0));
         vec![

@@ -660,3 +660,204 @@ fn previewed_and_not_done() {
     session.gets(&end, Reply::grant(0, 2, 0));
     session.gets(&work, Reply::grant(0, 0, 0));
 }
+
+// ---------------------------------------------------------------------------------------------
+// How many blocks a decision writes
+
+const WORK: Privilege = Privilege {
+    operation: 1,
+    target: 1,
+};
+const CLOSE: Privilege = Privilege {
+    operation: 2,
+    target: 1,
+};
+
+/// Closing ends rule 1, in each depot by itself. Rule 2 counts for good what is done in a job.
+fn depots() -> Vec<u8> {
+    let rule = |levels, last| Rule {
+        levels,
+        first: None,
+        last,
+        exclusions: vec![roles(2, &[31, 32])],
+    };
+    let may = |privilege| Permission { role: 1, privilege };
+    let (each, every) = (level(1, Mark::Each), level(1, Mark::Every));
+    write_policy(&Policy {
+        rules: vec![
+            rule(vec![each], Some(CLOSE)),
+            rule(vec![every, level(2, Mark::Every)], None),
+        ],
+        permissions: vec![vec![may(WORK), may(CLOSE)]],
+    })
+}
+
+/// A request in these levels of depot and job.
+fn of(user: u32, privilege: Privilege, values: &[u16]) -> Request {
+    Request {
+        user,
+        roles: 1,
+        privilege,
+        context: (1..).zip(values.iter().copied()).collect(),
+    }
+}
+
+/// Work in a job of a depot, as it stands in a table: with mark 1 it goes when its depot is closed,
+/// with mark 2 it stays as it is, with both it stays and loses one.
+fn work(user: u32, depot: u16, marks: u32) -> Record {
+    Record {
+        request: of(user, WORK, &[depot, 1]),
+        marks,
+    }
+}
+
+/// Puts a request to a table of these records: the answer, and how many blocks are written.
+fn blocks_written(records: &[Record], blocks: usize, request: &Request) -> (Reply, usize) {
+    let policy = depots();
+    let mut table = write_table(sums(&policy), records, blocks);
+    let mut comparing = Comparing::new();
+    assert_eq!(
+        comparing.check_table(&policy, &table),
+        Reply::accept(records.len())
+    );
+    comparing.decide_guarded(&policy, &mut table, &write_request(request))
+}
+
+fn times(record: Record, times: usize) -> Vec<Record> {
+    vec![record; times]
+}
+
+/// A request that is put behind alters one block, the first that has room; what is not recorded and
+/// clears nothing alters none; nor does a refusal.
+#[test]
+fn blocks_of_a_request_put_behind() {
+    let request = of(7, WORK, &[5, 1]);
+    let other = work(8, 6, 3);
+    for (held, blocks) in [(0, 1), (0, 128), (3, 4), (14, 1), (15, 2), (16, 2), (44, 3)] {
+        let records = times(other.clone(), held);
+        let grant = Reply::grant(1, 0, held + 1);
+        assert_eq!(blocks_written(&records, blocks, &request), (grant, 1));
+    }
+    let full = times(other, 45);
+    let gets = |request, reply, written| {
+        assert_eq!(blocks_written(&full, 3, &request), (reply, written));
+    };
+    gets(request, refuse(34, 0, 0), 0);
+    // No rule fits the whole business.
+    gets(of(7, WORK, &[]), Reply::grant(0, 0, 45), 0);
+    gets(of(7, privilege(9, 9), &[5, 1]), refuse(31, 0, 0), 0);
+    // Depot 5 has nothing to be cleared.
+    gets(of(7, CLOSE, &[5]), Reply::grant(0, 0, 45), 0);
+    // Other refusals, from the request's length down to the policy's.
+    let (policy, request) = (depots(), write_request(&of(7, WORK, &[5, 1])));
+    let good = write_table(sums(&policy), &full, 4);
+    let mut bad = good.clone();
+    bad[THIRD + 24] ^= 1;
+    let mut comparing = Comparing::new();
+    let mut gets = |policy: &[u8], table: &[u8], request: &[u8], reply| {
+        let got = comparing.decide_guarded(policy, &mut table.to_vec(), request);
+        assert_eq!(got, (reply, 0));
+    };
+    gets(&policy, &good, &request[..27], refuse(21, 0, 0));
+    gets(&policy, &good, &[0; 28], refuse(22, 0, 0));
+    gets(&policy, &bad, &request, refuse(12, 2, 0));
+    gets(&policy, &good[..2047], &request, refuse(11, 0, 0));
+    gets(&policy[..511], &good, &request, refuse(1, 0, 0));
+}
+
+/// Depot 5 is closed, by a step that is not recorded: a block is written if some record of it loses a
+/// mark, wherever it stands.
+#[test]
+fn blocks_of_marks_cleared() {
+    let (stays, loses) = (work(7, 6, 3), work(7, 5, 3));
+    let close = of(8, CLOSE, &[5]);
+    // Which records of 60 in five blocks lose a mark; the fifth has none, and is never written.
+    let gets = |losing: &dyn Fn(usize) -> bool, written| {
+        let one = |i| if losing(i) { &loses } else { &stays };
+        let records: Vec<Record> = (0..60).map(|i| one(i).clone()).collect();
+        let expected = (Reply::grant(0, 0, 60), written);
+        assert_eq!(blocks_written(&records, 5, &close), expected);
+    };
+    gets(&|_| false, 0);
+    gets(&|i| i == 0, 1);
+    gets(&|i| i == 14, 1);
+    gets(&|i| i == 15, 1);
+    gets(&|i| i == 59, 1);
+    gets(&|i| i / 15 == 1, 1);
+    gets(&|i| i == 0 || i == 59, 2);
+    gets(&|i| i / 15 == 0 || i / 15 == 2, 2);
+    gets(&|i| i % 15 == 7, 4);
+    gets(&|_| true, 4);
+}
+
+/// Depot 5 is closed, by a step that is not recorded, and records go.
+#[test]
+fn blocks_of_records_removed() {
+    let (goes, alike) = (work(7, 5, 1), work(7, 6, 3));
+    let close = of(8, CLOSE, &[5]);
+    let gets = |parts: &[&[Record]], removed, written| {
+        let records = parts.concat();
+        let grant = Reply::grant(0, removed, records.len() - removed);
+        assert_eq!(blocks_written(&records, 128, &close), (grant, written));
+    };
+    let (one, many) = (&[goes.clone()][..], |n| times(alike.clone(), n));
+    // The first goes, the rest are alike: the block it stood in, and the last, which has one less.
+    gets(&[one, &many(44)], 1, 2);
+    gets(&[one, &many(1_919)], 1, 2);
+    // It stood at the end of the second block.
+    gets(&[&many(29), one, &many(30)], 1, 2);
+    // The last block has one record, which goes, or which is needed further to the front.
+    gets(&[&many(30), one], 1, 1);
+    gets(&[one, &many(30)], 1, 2);
+    gets(&[one], 1, 1);
+    // One in each block goes, and the rest are alike.
+    gets(&[one, &many(14), one, &many(14), one, &many(14)], 3, 3);
+    // 15 go: the first block gets what the second had, the last is emptied.
+    gets(&[&times(goes.clone(), 15), &many(45)], 15, 2);
+    // All of three blocks and one record of the fourth go.
+    gets(&[&times(goes.clone(), 46), &many(14)], 46, 4);
+    gets(&[&times(goes.clone(), 1_920)], 1_920, 128);
+    // A mark is cleared in the second block, a record goes from the fourth.
+    gets(&[&many(15), &[work(9, 5, 3)], &many(29), one], 1, 2);
+    // Two kinds of record in turn, alike but for user or marks: one place further all differ, two
+    // places further they are the same.
+    for second in [work(9, 6, 3), work(7, 6, 2), work(7, 6, 1), work(7, 9, 3)] {
+        let in_turn = vec![[alike.clone(), second]; 22].concat();
+        gets(&[one, &in_turn[..44]], 1, 3);
+        gets(&[&times(goes.clone(), 2), &in_turn[..43]], 2, 2);
+    }
+    // All behind it differ.
+    let different: Vec<Record> = (1..=1_919).map(|user| work(user, 6, 3)).collect();
+    gets(&[one, &different], 1, 128);
+}
+
+/// Depot 5 is closed by a step in a job, which rule 2 counts: it is put behind the others, perhaps as
+/// just what stood there.
+#[test]
+fn blocks_of_a_last_step_put_behind() {
+    let goes = |n| times(work(7, 5, 1), n);
+    let close = of(8, CLOSE, &[5, 1]);
+    let closed = |marks| Record {
+        request: close.clone(),
+        marks,
+    };
+    let gets = |parts: &[&[Record]], removed, written| {
+        let records = parts.concat();
+        let grant = Reply::grant(1, removed, records.len() - removed + 1);
+        assert_eq!(blocks_written(&records, 4, &close), (grant, written));
+    };
+    let earlier = |n| times(closed(2), n);
+    // Only the block that the record goes from: all others have what they had, the last one too.
+    gets(&[&goes(1), &earlier(59)], 1, 1);
+    gets(&[&goes(1), &earlier(30)], 1, 1);
+    gets(&[&earlier(20), &goes(1), &earlier(20)], 1, 1);
+    gets(&[&earlier(30), &goes(1)], 1, 1);
+    // Sixteen go: the request comes to stand at the end of the third block, where it stood before.
+    gets(&[&goes(16), &earlier(44)], 16, 3);
+    // Earlier it was recorded with the mark that it now clears: all of these lose it.
+    gets(&[&earlier(30), &times(closed(3), 15)], 0, 2);
+    gets(&[&goes(1), &times(closed(3), 44)], 1, 3);
+    // Behind others it alters the last block too.
+    gets(&[&goes(1), &times(work(7, 6, 3), 44)], 1, 2);
+    gets(&[&times(work(7, 6, 3), 45)], 0, 1);
+}

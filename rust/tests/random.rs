@@ -3,6 +3,8 @@
 //!
 //! In a debug build each part but the large lists is a tenth as long.
 //!
+//! At every decision the engine's probe is asked too how many blocks were written.
+//!
 //! Each part goes by a seed and by a number of decisions, never by the clock, so that it does the
 //! same everywhere; and each part fails if an answer that it is there for did not come up often.
 //! Where a list fails, its shortest failing beginning is printed in words.
@@ -24,7 +26,9 @@ use support::chance::Chance;
 use support::compare::*;
 use support::damage::{damage, restamp, telling};
 use support::lists::{shortest, Call, List, Start};
+use support::repeated::Repeated;
 use support::world::{request_bytes, World};
+use support::written;
 
 const SEED: u64 = 2_026;
 
@@ -289,6 +293,40 @@ fn many_privileges() {
 }
 
 // ---------------------------------------------------------------------------------------------
+// Tables of records alike, whose blocks may come out the same
+
+fn repeated_table(comparing: &mut Comparing, chance: &mut Chance) {
+    let repeated = Repeated::new(chance);
+    let (policy, records) = (&repeated.image, &repeated.records);
+    let table = write_table(repeated.stamp(), records, repeated.blocks);
+    let accepted = Reply::accept(records.len());
+    assert_eq!(comparing.check_table(policy, &table), accepted);
+    let requests = (0..chance.from(1, 4))
+        .map(|_| write_request(&repeated.request(chance)).to_vec())
+        .collect();
+    list_on(chance, policy, table, requests).run(comparing);
+}
+
+fn must_have_seen_in_repeated_tables(seen: &Seen, times: usize) {
+    seen.must_note(&written::MET, times);
+    seen.must_refuse("decide", &[34], times);
+}
+
+#[test]
+fn repeated_requests() {
+    let mut comparing = Comparing::new();
+    until(
+        &mut comparing,
+        "repeated requests",
+        SEED,
+        full(60_000),
+        repeated_table,
+    );
+    must_have_seen_in_repeated_tables(&comparing.seen, full(200));
+    println!("{}", comparing.seen);
+}
+
+// ---------------------------------------------------------------------------------------------
 // Damaged images
 
 /// Puts all five calls to what may be damaged.
@@ -469,13 +507,14 @@ fn long() {
     let seed = number_from("SOD_SEED", SEED + 1);
     let times = number_from("SOD_TIMES", 1) as usize;
     type Part = (&'static str, usize, fn(&mut Comparing, &mut Chance));
-    let parts: [Part; 8] = [
+    let parts: [Part; 9] = [
         ("small lists", 7_000_000, small_list),
         ("middling lists", 100_000, middling_list),
         ("large lists", 15_000, large_list),
         ("strange tables", 2_000_000, strange_table),
         ("strange large tables", 10_000, strange_large_table),
         ("busy tables", 150_000, busy_table),
+        ("repeated requests", 300_000, repeated_table),
         ("damaged images", 1_000_000, damaged_images),
         ("every byte", 500_000, every_byte),
     ];
@@ -490,6 +529,7 @@ fn long() {
             "small lists" => must_have_seen_in_lists(&comparing.seen, 10_000 * times),
             "strange tables" => must_have_seen_in_lists(&comparing.seen, 5_000 * times),
             "busy tables" => must_have_seen_in_busy_tables(&comparing.seen, 250 * times),
+            "repeated requests" => must_have_seen_in_repeated_tables(&comparing.seen, 1_000),
             "damaged images" => must_have_seen_in_damaged_images(&comparing.seen, 3_000),
             _ => {}
         }

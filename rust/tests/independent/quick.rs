@@ -39,9 +39,14 @@ pub fn fresh_table(policy: &[u8], table: &mut [u8]) -> Reply {
 }
 
 pub fn decide(policy: &[u8], table: &mut [u8], request: &[u8]) -> Reply {
+    decide_counting(policy, table, request).0
+}
+
+/// A decision, and how many blocks it has written.
+pub fn decide_counting(policy: &[u8], table: &mut [u8], request: &[u8]) -> (Reply, u32) {
     match decided(policy, table, request) {
-        Ok(grant) => grant,
-        Err(refusal) => refusal,
+        Ok(granted) => granted,
+        Err(refusal) => (refusal, 0),
     }
 }
 
@@ -460,13 +465,13 @@ fn seal(block: &mut Block) {
 // ---------------------------------------------------------------------------------------------
 // The judge
 
-fn decided(policy: &[u8], table: &mut [u8], request: &[u8]) -> Answer<Reply> {
+fn decided(policy: &[u8], table: &mut [u8], request: &[u8]) -> Answer<(Reply, u32)> {
     let policy = read_policy(policy)?;
     let step = judge(&policy, table, request)?;
     let table = table.as_chunks_mut::<512>().0;
     let grant = step.grant(table)?;
-    step.take(table, grant.third as usize);
-    Ok(grant)
+    let written = step.take(table, grant.third as usize);
+    Ok((grant, written))
 }
 
 /// The grant is known before anything is written, so that a preview is done with it.
@@ -666,19 +671,27 @@ impl Step<'_> {
         Ok(Reply::grant(recorded, removed, held_after))
     }
 
-    /// Writes the new table, which holds so many records.
-    fn take(&self, table: &mut [Block], held_after: usize) {
+    /// Writes the new table, which holds so many records; says how many blocks it wrote.
+    fn take(&self, table: &mut [Block], held_after: usize) -> u32 {
         let mut writer = Writer { table, altered: 0 };
-        if self.closing != 0 {
-            self.clear(&mut writer);
-        }
+        let mut to = if self.closing == 0 {
+            Place::of(self.held)
+        } else {
+            self.clear(&mut writer)
+        };
         if self.marks != 0 {
             let mut record = [0; 32];
             record[..28].copy_from_slice(self.request);
-            put_word(&mut record, 7, self.marks);
-            writer.put(held_after - 1, &record);
+            writer.put(to, with_marks(&record, self.marks));
+            to = to.next();
         }
-        writer.finish(held_after);
+        // The places that fall free become zero. The request is there already: no place is put to
+        // twice, so that a record is compared with what stood there before the step.
+        for _ in held_after..self.held {
+            writer.put(to, [0; 4]);
+            to = to.next();
+        }
+        writer.finish(held_after)
     }
 
     /// The marks that are left to a record.
@@ -689,56 +702,120 @@ impl Step<'_> {
         marks & !(self.closing & self.policy.sharing(&self.context, &earlier.context))
     }
 
-    /// Clears marks and closes up; the places that fall free become zero.
-    fn clear(&self, writer: &mut Writer) {
-        let mut to = 0;
-        for from in 0..self.held {
-            let mut record = writer.get(from);
-            let (earlier, marks) = read_record(&record);
-            let left = self.left(&earlier, marks);
-            if left == 0 {
-                continue;
+    /// Clears marks and closes up; the place behind the last record that stays.
+    fn clear(&self, writer: &mut Writer) -> Place {
+        let (mut to, mut moved) = (Place::of(0), false);
+        for block in 0..self.held.div_ceil(RECORDS_PER_BLOCK) {
+            let count = self.held - RECORDS_PER_BLOCK * block;
+            for index in 0..count.min(RECORDS_PER_BLOCK) {
+                let bytes = writer.at(Place { block, index });
+                let (earlier, marks) = read_record(bytes);
+                let left = self.left(&earlier, marks);
+                if left == 0 {
+                    moved = true;
+                    continue;
+                }
+                if moved || left != marks {
+                    let record = with_marks(bytes, left);
+                    writer.put(to, record);
+                }
+                to = to.next();
             }
-            if left != marks || to != from {
-                put_word(&mut record, 7, left);
-                writer.put(to, &record);
-            }
-            to += 1;
         }
-        for place in to..self.held {
-            writer.put(place, &[0; 32]);
+        to
+    }
+}
+
+/// A record as four numbers, by which it is compared and written whole.
+type Whole = [u64; 4];
+
+/// These bytes of a record, with other marks.
+fn with_marks(bytes: &[u8; 32], marks: u32) -> Whole {
+    let [first, second, third, last] = whole(bytes);
+    [
+        first,
+        second,
+        third,
+        last << 32 >> 32 | u64::from(marks) << 32,
+    ]
+}
+
+fn whole(bytes: &[u8; 32]) -> Whole {
+    let numbers = bytes.as_chunks::<8>().0;
+    [0, 1, 2, 3].map(|i| u64::from_le_bytes(numbers[i]))
+}
+
+/// Where a record stands: in which block, and as which of its records.
+#[derive(Clone, Copy, PartialEq, Eq)]
+struct Place {
+    block: usize,
+    index: usize,
+}
+
+impl Place {
+    /// Of so many records, that of the next one.
+    fn of(records: usize) -> Place {
+        Place {
+            block: records / RECORDS_PER_BLOCK,
+            index: records % RECORDS_PER_BLOCK,
+        }
+    }
+
+    fn next(self) -> Place {
+        if self.index + 1 < RECORDS_PER_BLOCK {
+            Place {
+                index: self.index + 1,
+                ..self
+            }
+        } else {
+            Place {
+                block: self.block + 1,
+                index: 0,
+            }
         }
     }
 }
 
-/// Writes records and remembers which of the 128 blocks must get a new count and check.
+/// Writes records where others stood, and remembers which of the 128 blocks must get a new count and
+/// check: those whose records differ, and no others.
 struct Writer<'t> {
     table: &'t mut [Block],
     altered: u128,
 }
 
 impl Writer<'_> {
-    fn get(&self, place: usize) -> [u8; 32] {
-        let at = 24 + 32 * (place % RECORDS_PER_BLOCK);
-        let block = &self.table[place / RECORDS_PER_BLOCK];
-        *block[at..].first_chunk().unwrap()
+    fn at(&self, place: Place) -> &[u8; 32] {
+        let from = 24 + 32 * place.index;
+        self.table[place.block][from..].first_chunk().unwrap()
     }
 
-    fn put(&mut self, place: usize, record: &[u8; 32]) {
-        let at = 24 + 32 * (place % RECORDS_PER_BLOCK);
-        let number = place / RECORDS_PER_BLOCK;
-        self.table[number][at..at + 32].copy_from_slice(record);
-        self.altered |= 1 << number;
+    /// A record, or zero for a place that has none.
+    fn put(&mut self, place: Place, record: Whole) {
+        let from = 24 + 32 * place.index;
+        let there: &mut [u8; 32] = self.table[place.block][from..].first_chunk_mut().unwrap();
+        let stood = whole(there);
+        // Number by number: as arrays they would have to be stored first, and read back.
+        let differs = (0..4).fold(0, |some, i| some | stood[i] ^ record[i]);
+        if differs != 0 {
+            for (bytes, number) in there.as_chunks_mut().0.iter_mut().zip(record) {
+                *bytes = number.to_le_bytes();
+            }
+            self.altered |= 1 << place.block;
+        }
     }
 
-    fn finish(self, held: usize) {
+    /// Seals the altered blocks of a table that now holds so many records, and counts them.
+    fn finish(self, held: usize) -> u32 {
+        let mut written = 0;
         for (number, block) in self.table.iter_mut().enumerate() {
             if self.altered >> number & 1 == 1 {
                 let before = RECORDS_PER_BLOCK * number;
                 let count = held.saturating_sub(before).min(RECORDS_PER_BLOCK);
                 put_word(block, 2, count as u32);
                 seal(block);
+                written += 1;
             }
         }
+        written
     }
 }

@@ -3,9 +3,10 @@
 
 #[path = "../independent/mod.rs"]
 mod independent;
+mod lent;
 
 use independent::quick;
-use std::slice::{from_raw_parts, from_raw_parts_mut};
+use lent::{lent, lent_mut};
 
 /// `sod_reply` of include/sod.h.
 #[repr(C)]
@@ -24,23 +25,6 @@ impl From<independent::Reply> for Reply {
             second: reply.second,
             third: reply.third,
         }
-    }
-}
-
-/// Any pointer will do for no bytes.
-unsafe fn lent<'a>(bytes: *const u8, len: usize) -> &'a [u8] {
-    if len == 0 {
-        &[]
-    } else {
-        from_raw_parts(bytes, len)
-    }
-}
-
-unsafe fn lent_mut<'a>(bytes: *mut u8, len: usize) -> &'a mut [u8] {
-    if len == 0 {
-        &mut []
-    } else {
-        from_raw_parts_mut(bytes, len)
     }
 }
 

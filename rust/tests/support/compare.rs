@@ -1,7 +1,9 @@
 //! One call put to the engine and to both independent judges, and all that comes of it compared.
 
+use super::guarded::{Guarded, SHIFTS};
 use super::lent::{Lay, Lent};
 use super::plain;
+use super::written::{differing_bytes, Change, NONE};
 use crate::independent::images::{places, BLOCK};
 use crate::independent::{judge, quick, Reply};
 use hastovimen::raw;
@@ -120,6 +122,7 @@ pub struct Comparing {
     policy: Lent,
     table: Lent,
     request: Lent,
+    guarded: Guarded,
     calls: usize,
     pub seen: Seen,
 }
@@ -129,12 +132,16 @@ const LONGEST_POLICY: usize = 512 * 66;
 const LONGEST_TABLE: usize = 512 * 130;
 const LONGEST_REQUEST: usize = 512;
 
+/// Every so many calls a decision is made again on a guarded table, which takes time.
+const GUARDED: usize = 4;
+
 impl Comparing {
     pub fn new() -> Comparing {
         Comparing {
             policy: Lent::new(LONGEST_POLICY),
             table: Lent::new(LONGEST_TABLE),
             request: Lent::new(LONGEST_REQUEST),
+            guarded: Guarded::new(LONGEST_TABLE),
             calls: 0,
             seen: Seen::default(),
         }
@@ -174,6 +181,86 @@ impl Comparing {
 
     /// Decides, and brings `table` up to date.
     pub fn decide(&mut self, policy: &[u8], table: &mut [u8], request: &[u8]) -> Reply {
+        let before = table.to_vec();
+        let (reply, _) = self.decide_and_probe(policy, table, request);
+        if self.calls.is_multiple_of(GUARDED) {
+            let shift = self.calls / GUARDED % SHIFTS;
+            self.write_to_no_other(policy, &before, table, request, shift);
+        }
+        reply
+    }
+
+    /// Decides. The answer, and how many blocks were written; no other was written to.
+    pub fn decide_guarded(
+        &mut self,
+        policy: &[u8],
+        table: &mut [u8],
+        request: &[u8],
+    ) -> (Reply, usize) {
+        let before = table.to_vec();
+        let answer = self.decide_and_probe(policy, table, request);
+        for shift in 0..SHIFTS {
+            self.write_to_no_other(policy, &before, table, request, shift);
+        }
+        answer
+    }
+
+    /// Decides, and asks the probe on a copy of the table how many blocks were written.
+    fn decide_and_probe(
+        &mut self,
+        policy: &[u8],
+        table: &mut [u8],
+        request: &[u8],
+    ) -> (Reply, usize) {
+        let before = table.to_vec();
+        let (reply, by_quick) = self.decide_alone(policy, table, request);
+        let written = self.probe(policy, &before, table, request);
+        let differing = differing_bytes(&before, table);
+        assert_eq!(written, differing.len(), "the probe: blocks that differ");
+        assert_eq!(written, by_quick, "the probe: the quick judge's blocks");
+        if reply.is_refusal() {
+            assert_eq!(written, 0, "the probe: a refusal");
+        } else if written == 0 {
+            self.seen.note(NONE);
+        } else {
+            let change = Change::read(policy, &before, table);
+            assert_eq!(differing, change.differing(), "records differ elsewhere");
+            for what in change.meets(&differing, reply.first == 1) {
+                self.seen.note(what);
+            }
+        }
+        (reply, written)
+    }
+
+    /// The number of blocks that the probe has written, when it has left the same table.
+    fn probe(&mut self, policy: &[u8], before: &[u8], after: &[u8], request: &[u8]) -> usize {
+        self.lay(policy, before, request);
+        let (policy_lent, request_lent) = (self.policy.bytes(), self.request.bytes());
+        let written = probe::decide(policy_lent, self.table.bytes_mut(), request_lent);
+        assert!(self.table.bytes() == after, "the probe's table is another");
+        self.nothing_altered(policy, after, request);
+        written
+    }
+
+    /// Decides once more, where only blocks that differ afterwards may be written to.
+    fn write_to_no_other(
+        &mut self,
+        policy: &[u8],
+        before: &[u8],
+        after: &[u8],
+        request: &[u8],
+        shift: usize,
+    ) {
+        let decide = |table: &mut [u8]| {
+            let _same = raw::decide(policy, table, request);
+        };
+        let differing = differing_bytes(before, after);
+        let left = self.guarded.lend(before, shift, &differing, decide);
+        assert!(left == after, "the table is another where it is guarded");
+    }
+
+    /// The answer, and how many blocks the quick judge has written.
+    fn decide_alone(&mut self, policy: &[u8], table: &mut [u8], request: &[u8]) -> (Reply, usize) {
         self.lay(policy, table, request);
         let reply = plain::grant(raw::decide(
             self.policy.bytes(),
@@ -181,12 +268,12 @@ impl Comparing {
             self.request.bytes(),
         ));
         let (mut by_quick, mut by_judge) = (table.to_vec(), table.to_vec());
-        let quick = quick::decide(policy, &mut by_quick, request);
+        let (quick, written) = quick::decide_counting(policy, &mut by_quick, request);
         assert_eq!(reply, quick, "quick judge");
         let judge = judge::decide(policy, &mut by_judge, request);
         assert_eq!(reply, judge, "judge");
         self.new_table(reply, policy, table, request, &by_quick, &by_judge);
-        self.done("decide", reply)
+        (self.done("decide", reply), written as usize)
     }
 
     /// Previews; no lent byte is altered, whatever the answer.

@@ -8,7 +8,7 @@ use std::ffi::{c_int, c_long, c_void};
 use std::ptr::null_mut;
 use std::slice::{from_raw_parts, from_raw_parts_mut};
 
-const PAGE: usize = 4096;
+pub const PAGE: usize = 4096;
 const CANARY: u8 = 0xA5;
 const CANARIES: usize = 64;
 
@@ -35,6 +35,13 @@ extern "C" {
 pub enum Lay {
     AtTheEnd,
     AtTheBeginning,
+}
+
+/// What may be done with a page.
+#[derive(Clone, Copy, PartialEq, Eq, Debug)]
+pub enum Access {
+    Read,
+    Write,
 }
 
 /// A piece of memory for buffers up to a certain length, which is never given back.
@@ -76,9 +83,28 @@ impl Lent {
     pub fn read_only(bytes: &[u8]) -> Lent {
         let mut lent = Lent::new(bytes.len());
         lent.lay(bytes, Lay::AtTheEnd);
-        let protected = unsafe { mprotect(lent.pages.cast(), lent.size, PROT_READ) };
-        assert_eq!(protected, 0);
+        for page in 0..lent.size / PAGE {
+            lent.allow(page, Access::Read);
+        }
         lent
+    }
+
+    /// Says whether one of its pages may be written to.
+    pub fn allow(&mut self, page: usize, access: Access) {
+        assert!(PAGE * page < self.size);
+        let prot = match access {
+            Access::Read => PROT_READ,
+            Access::Write => PROT_READ_WRITE,
+        };
+        let protected = unsafe { mprotect(self.pages.add(PAGE * page).cast(), PAGE, prot) };
+        assert_eq!(protected, 0);
+    }
+
+    /// Lays these bytes down, so many bytes into the pages and without canaries.
+    pub fn lay_within(&mut self, bytes: &[u8], from: usize) {
+        assert!(from + bytes.len() <= self.size);
+        (self.from, self.len) = (from, bytes.len());
+        self.bytes_mut().copy_from_slice(bytes);
     }
 
     /// Lays these bytes down, with canaries beside them.

@@ -3,6 +3,7 @@
 use super::chance::Chance;
 use super::compare::{Comparing, Seen};
 use super::plain::line;
+use super::written::differing_bytes;
 use crate::independent::images::*;
 use crate::independent::judge;
 use crate::independent::register::Register;
@@ -148,11 +149,13 @@ impl List {
             };
             let words = hastovimen::Request::read(request);
             let words = words.map_or(format!("{request:?}"), |request| request.to_string());
+            let before = table.clone();
             let answer = line(match call {
                 Call::Preview(_) => judge::preview(&self.policy, &table, request),
                 _ => judge::decide(&self.policy, &mut table, request),
             });
-            writeln!(text, "{} {name}{words}: {answer}", i + 1).unwrap();
+            let blocks = differing_bytes(&before, &table).len();
+            writeln!(text, "{} {name}{words}: {answer}; blocks {blocks}", i + 1).unwrap();
         }
         text
     }
