@@ -12,7 +12,7 @@ use fields::request;
 use fields::sets::RuleSet;
 use fields::tables::Blocks;
 use matching::masks::Each;
-use matching::masks::together;
+use matching::masks::together_of;
 
 // The rules that end, the masks that tell their run places apart, and blocks outside which no record is in the request's run place of one of them.
 pub struct Ending {
@@ -26,7 +26,7 @@ pub fn cleared_marks(ending: Ending, q: &[u8], table: &[u8], at: usize) -> RuleS
     requires { ⌜ (length (now q) ≡ requestBytes) × (at + recordBytes ≤ length (now table)) ⌝ }
     ensures { λ r. ⌜ r .0 ≡ clearedBy (ending .each) (now (q .entry)) (ending .rules .0) (recordFrom (now (table .entry)) at) .marks ⌝ }
 {
-    request::marks(table, at).without(together(ending.each, ending.rules, q, table, at))
+    request::marks(table, at).without(together_of(ending.each, ending.rules, q, table, at))
 }
 
 // The place behind the block of place i, or n.

@@ -1,19 +1,21 @@
 -- The rules under which two requests share a run place, of a set; and the blocks that have a marked record there, for fewer rules.
 -- Assumes nothing.
 use Prim.Native.Nat.{ℕ, _-_, _<_}
-use mathlib.Core.Path.{_≡_, refl, sym, ap, _∙_}
-use mathlib.Core.Bool.{Bool, true, false, not, _&&_, and-assoc, false≢true}
+use mathlib.Core.Path.{_≡_, refl, sym, ap, ap₂, _∙_}
+use mathlib.Core.Bool.{Bool, true, false, cond, not, _&&_, _||_, and-assoc, and-true, or-false, false≢true}
 use mathlib.Core.List.{List}
-use lib.Bits.{bitAnd, and-zero-r}
+use lib.Bits.{bitAnd, bitOr, and-zero-r}
+use lib.Dec.{eqb}
 use native.Mathlib.Omega.{arith}
 use Rattle.words.specs.Bytes.{bit}
 use Rattle.word_laws.proofs.Bits.{bit-none}
-use Rattle.word_laws.proofs.BitLaws.{bit-and, bit-without, all-bits}
-use Rattle.format.specs.Request.{Request}
+use Rattle.word_laws.proofs.BitLaws.{bit-and, bit-or, bit-without, all-bits}
+use Rattle.word_laws.proofs.Tests.{neither-first, neither-second}
+use Rattle.format.specs.Request.{Request, contextOf, levelValue}
 use Rattle.format.specs.Records.{recordHere}
 use Rattle.fields.specs.declared.blocks.BlockSet.{BlockSet}
 use Rattle.matching.specs.declared.masks.Each.{Each}
-use Rattle.matching.specs.Masks.{apartBy, togetherBy, NearOf}
+use Rattle.matching.specs.Masks.{apartAt, apartWithin, apartBy, togetherBy, NearOf}
 
 module _ (e : Each) (rules : ℕ) (q x : Request) where
   -- the rules of a record's marks among them
@@ -60,3 +62,47 @@ unfolding togetherBy
 near-none e rules q s n near z j h off =
     let none : rules - bitAnd rules (apartBy e q (recordHere s j .request)) ≡ 0 = omega arith in
     rw none (and-zero-r (recordHere s j .marks))
+
+-- rules that tell no run places apart behind the first level
+pub together-shallow :
+    (e : Each) (rules : ℕ) (q x : Request) → bitAnd (bitOr (bitOr (e .second .0) (e .third .0)) (e .fourth .0)) rules ≡ 0
+    → rules - bitAnd rules (apartAt q x 0 (e .first .0)) ≡ togetherBy e rules q x
+unfolding togetherBy apartBy apartWithin
+together-shallow e rules q x none =
+    all-bits (rules - bitAnd rules (apartAt q x 0 (e .first .0))) (togetherBy e rules q x)
+    (λ i.
+    bit-without i rules (apartAt q x 0 (e .first .0))
+    ∙ same i (bit i rules) refl
+    ∙ sym (bit-without i rules (apartBy e q x) ∙ ap (λ (b : Bool). bit i rules && not b) (bit-or i (apartAt q x 0 (e .first .0)) (apartWithin e q x))))
+  where
+    -- a level's mask, or nothing
+    either : (b : Bool) (m i : ℕ) → bit i m ≡ false → bit i (cond b 0 m) ≡ false
+    either true m i off = bit-none i
+    either false m i off = off
+
+    off : (i : ℕ) → bit i rules ≡ true → bit i (bitOr (bitOr (e .second .0) (e .third .0)) (e .fourth .0)) ≡ false
+    off i on =
+        sym (and-true (bit i (bitOr (bitOr (e .second .0) (e .third .0)) (e .fourth .0))))
+        ∙ ap (λ (b : Bool). bit i (bitOr (bitOr (e .second .0) (e .third .0)) (e .fourth .0)) && b) (sym on)
+        ∙ sym (bit-and i (bitOr (bitOr (e .second .0) (e .third .0)) (e .fourth .0)) rules)
+        ∙ ap (bit i) none
+        ∙ bit-none i
+
+    within : (i : ℕ) → bit i rules ≡ true → bit i (apartWithin e q x) ≡ false
+    within i on =
+        let all = sym (bit-or i (bitOr (e .second .0) (e .third .0)) (e .fourth .0)) ∙ off i on in
+        let two = sym (bit-or i (e .second .0) (e .third .0)) ∙ neither-first (bit i (bitOr (e .second .0) (e .third .0))) (bit i (e .fourth .0)) all in
+        bit-or i (bitOr (apartAt q x 1 (e .second .0)) (apartAt q x 2 (e .third .0))) (apartAt q x 3 (e .fourth .0))
+        ∙ ap₂ {C = Bool} _||_
+        (bit-or i (apartAt q x 1 (e .second .0)) (apartAt q x 2 (e .third .0))
+        ∙ ap₂ {C = Bool} _||_
+        (either (eqb (levelValue (contextOf q) 1) (levelValue (contextOf x) 1)) (e .second .0) i (neither-first (bit i (e .second .0)) (bit i (e .third .0)) two))
+        (either (eqb (levelValue (contextOf q) 2) (levelValue (contextOf x) 2)) (e .third .0) i (neither-second (bit i (e .second .0)) (bit i (e .third .0)) two)))
+        (either (eqb (levelValue (contextOf q) 3) (levelValue (contextOf x) 3)) (e .fourth .0) i (neither-second (bit i (bitOr (e .second .0) (e .third .0))) (bit i (e .fourth .0)) all))
+
+    same : (i : ℕ) (b : Bool) → bit i rules ≡ b
+        → bit i rules && not (bit i (apartAt q x 0 (e .first .0))) ≡ bit i rules && not (bit i (apartAt q x 0 (e .first .0)) || bit i (apartWithin e q x))
+    same i true on =
+        ap (λ (b : Bool). bit i rules && not b)
+        (sym (ap (λ (b : Bool). bit i (apartAt q x 0 (e .first .0)) || b) (within i on) ∙ or-false (bit i (apartAt q x 0 (e .first .0)))))
+    same i false on = rw on

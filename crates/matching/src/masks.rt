@@ -110,3 +110,16 @@ pub fn apart(each: Each, q: &[u8], s: &[u8], at: usize) -> RuleSet
 {
     apart_at(q, s, at, 0, each.first).or(apart_within(each, q, s, at))
 }
+
+// What `together` gives, for a set of rules that is asked of many records: levels behind the first are looked at only if one of the rules tells run
+// places apart there.
+pub fn together_of(each: Each, rules: RuleSet, q: &[u8], s: &[u8], at: usize) -> RuleSet
+    requires { ⌜ (length (now q) ≡ requestBytes) × (at + requestBytes ≤ length (now s)) ⌝ }
+    ensures { λ r. ⌜ r .0 ≡ togetherBy each (rules .0) (now (q .entry)) (part (now (s .entry)) at requestBytes) ⌝ }
+{
+    let within = each.second.or(each.third).or(each.fourth);
+    if within.and(rules).is_empty() {
+        return rules.without(apart_at(q, s, at, 0, each.first));
+    }
+    together(each, rules, q, s, at)
+}

@@ -11,8 +11,8 @@ use Rattle.clearing.proofs.ending.cleared_marks.Tie as tie
 marks-requires : tie.Need-marks-requires
 marks-requires c κs = search needs
 
-together-requires : tie.Need-together-requires
-together-requires c κs = search needs
+together-of-requires : tie.Need-together-of-requires
+together-of-requires c κs = search needs
 
 without-requires : tie.Need-without-requires
 without-requires c κs = search needs
@@ -20,7 +20,7 @@ without-requires c κs = search needs
 returns : tie.Need-returns
 unfolding clearedBy keptMarks
 returns c =
-    c .without .ensures ∙ ap₂ {C = ℕ} (λ x y. x - bitAnd x y) (c .before .before .marks .ensures) (c .before .together .ensures)
+    c .without .ensures ∙ ap₂ {C = ℕ} (λ x y. x - bitAnd x y) (c .before .before .marks .ensures) (c .before .together-of .ensures)
 
 pub cleared-marks-spec : {M : Type 1} → statement M
-cleared-marks-spec = tie.close (tie.spec marks-requires together-requires without-requires returns)
+cleared-marks-spec = tie.close (tie.spec marks-requires together-of-requires without-requires returns)
