@@ -4,7 +4,7 @@ use Prim.Native.Nat.{ℕ, zero, suc, _<_, _≤_}
 use native.Mathlib.Decide.{decLe}
 use native.Mathlib.Omega.{arith}
 use mathlib.Core.Path.{_≡_, refl, sym, ap, _∙_}
-use mathlib.Core.Bool.{Bool, true, false, not, _&&_, _||_}
+use mathlib.Core.Bool.{Bool, true, false, not, _&&_, _||_, or-false}
 use mathlib.Core.List.{List}
 use mathlib.Core.Option.{none}
 use borrow.Author.Tests.{lt-ltb, le-ltb}
@@ -20,7 +20,7 @@ use Rattle.format_laws.proofs.AcceptedPolicy.{depth-few}
 use Rattle.matching.specs.Levels.{sameAt}
 use Rattle.matching.proofs.Levels.{same-place}
 use Rattle.matching.specs.declared.masks.Each.{Each}
-use Rattle.matching.specs.Masks.{isEach, eachAt, EachOf, apartIn, apartWithin, apartBy}
+use Rattle.matching.specs.Masks.{isEach, eachAt, EachOf, apartIn, apartBeside, apartBy}
 
 -- not all of the first d pass exactly where one of the first n, of which there are at least d, is among the d and fails
 some-fails : (f : ℕ → Bool) (n d : ℕ) → d ≤ n → anyBelow n (λ l. ltb l d && not (f l)) ≡ not (allBelow d f)
@@ -28,10 +28,6 @@ unfolding anyBelow allBelow
 some-fails f zero d h = let e : d ≡ 0 = omega arith in rw e
 some-fails f (suc n) d h = go (some-fails f n d) (some-fails f n n (omega arith)) (decLe d n)
   where
-    or-false : (a b : Bool) → a ≡ b → a || false ≡ b
-    or-false true b e = e
-    or-false false b e = e
-
     last : (a b c : Bool) → a ≡ not b → a || not c ≡ not (b && c)
     last a true c e = rw e
     last a false c e = rw e
@@ -40,7 +36,7 @@ some-fails f (suc n) d h = go (some-fails f n d) (some-fails f n n (omega arith)
         (d ≤ n → anyBelow n (λ l. ltb l d && not (f l)) ≡ not (allBelow d f))
         → anyBelow n (λ l. ltb l n && not (f l)) ≡ not (allBelow n f) → Dec (d ≤ n)
         → anyBelow n (λ l. ltb l d && not (f l)) || (ltb n d && not (f n)) ≡ not (allBelow d f)
-    go ih jh (yes k) = rw (le-ltb n d k) (or-false _ _ (ih k))
+    go ih jh (yes k) = rw (le-ltb n d k) (or-false _ ∙ ih k)
     go ih jh (no k) =
         let e : d ≡ suc n = omega arith in
         rw (e, lt-ltb n (suc n) (omega arith))
@@ -54,7 +50,7 @@ module _ (p : Policy) (q x : Request) where
 
   apart-rule :
       (i : ℕ) → p .rule i .depth ≤ 4
-      → apartLevel 0 i || ((apartLevel 1 i || apartLevel 2 i) || apartLevel 3 i) ≡ not (samePlace (p .rule i) q x)
+      → ((apartLevel 0 i || apartLevel 2 i) || apartLevel 3 i) || apartLevel 1 i ≡ not (samePlace (p .rule i) q x)
   unfolding anyBelow apartLevel isEach
   apart-rule i h =
       join (apartLevel 0 i) (apartLevel 1 i) (apartLevel 2 i) (apartLevel 3 i)
@@ -63,9 +59,12 @@ module _ (p : Policy) (q x : Request) where
       ∙ some-fails (sameAt (p .rule i) q x) 4 (p .rule i .depth) h
       ∙ ap not (sym (same-place (p .rule i) q x))
     where
-      join : (a b c d : Bool) → a || ((b || c) || d) ≡ ((a || b) || c) || d
+      join : (a b c d : Bool) → ((a || c) || d) || b ≡ ((a || b) || c) || d
       join true b c d = refl
-      join false b c d = refl
+      join false true true d = refl
+      join false true false true = refl
+      join false true false false = refl
+      join false false c d = or-false (c || d)
 
       turn : (e d m : Bool) → not e && (d && m) ≡ d && not (not m || e)
       turn true true true = refl
@@ -76,14 +75,14 @@ module _ (p : Policy) (q x : Request) where
       turn false false m = refl
 
   pub apart-all : (e : Each) → EachOf p e → ((i : ℕ) → i < p .rules → p .rule i .depth ≤ 4) → apartBy e q x ≡ apartIn p q x
-  unfolding apartBy apartWithin apartIn eachAt apartLevel
+  unfolding apartBy apartBeside apartIn eachAt apartLevel
   apart-all e is few =
       rw (is .at-first, is .at-second, is .at-third, is .at-fourth)
       (rw (bits-under (p .rules) (isEach p 0) _, bits-under (p .rules) (isEach p 1) _, bits-under (p .rules) (isEach p 2) _, bits-under (p .rules) (isEach p 3) _)
-      (rw (bits-or (p .rules) (apartLevel 1) (apartLevel 2))
-      (rw (bits-or (p .rules) (λ i. apartLevel 1 i || apartLevel 2 i) (apartLevel 3))
-      (rw (bits-or (p .rules) (apartLevel 0) (λ i. (apartLevel 1 i || apartLevel 2 i) || apartLevel 3 i))
-      (bits-same (p .rules) (λ i. apartLevel 0 i || ((apartLevel 1 i || apartLevel 2 i) || apartLevel 3 i)) (λ i. not (samePlace (p .rule i) q x))
+      (rw (bits-or (p .rules) (apartLevel 0) (apartLevel 2))
+      (rw (bits-or (p .rules) (λ i. apartLevel 0 i || apartLevel 2 i) (apartLevel 3))
+      (rw (bits-or (p .rules) (λ i. (apartLevel 0 i || apartLevel 2 i) || apartLevel 3 i) (apartLevel 1))
+      (bits-same (p .rules) (λ i. ((apartLevel 0 i || apartLevel 2 i) || apartLevel 3 i) || apartLevel 1 i) (λ i. not (samePlace (p .rule i) q x))
       (λ i h. apart-rule i (few i h)))))))
 
 -- under an accepted policy

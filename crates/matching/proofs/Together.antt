@@ -15,7 +15,7 @@ use Rattle.format.specs.Request.{Request, contextOf, levelValue}
 use Rattle.format.specs.Records.{recordHere}
 use Rattle.fields.specs.declared.blocks.BlockSet.{BlockSet}
 use Rattle.matching.specs.declared.masks.Each.{Each}
-use Rattle.matching.specs.Masks.{apartAt, apartWithin, apartBy, togetherBy, NearOf}
+use Rattle.matching.specs.Masks.{apartAt, apartBeside, apartBy, togetherBy, NearOf}
 
 module _ (e : Each) (rules : ℕ) (q x : Request) where
   -- the rules of a record's marks among them
@@ -63,17 +63,33 @@ near-none e rules q s n near z j h off =
     let none : rules - bitAnd rules (apartBy e q (recordHere s j .request)) ≡ 0 = omega arith in
     rw none (and-zero-r (recordHere s j .marks))
 
+-- of four masks only the first matters to these rules
+only-first : (rules a b c d : ℕ) → ((i : ℕ) → bit i rules ≡ true → (bit i b ≡ false) × (bit i c ≡ false) × (bit i d ≡ false))
+    → rules - bitAnd rules a ≡ rules - bitAnd rules (bitOr (bitOr (bitOr a c) d) b)
+only-first rules a b c d off =
+    all-bits (rules - bitAnd rules a) (rules - bitAnd rules (bitOr (bitOr (bitOr a c) d) b))
+    (λ i. bit-without i rules a ∙ go i (bit i rules) refl ∙ sym (bit-without i rules (bitOr (bitOr (bitOr a c) d) b)))
+  where
+    go : (i : ℕ) (r : Bool) → bit i rules ≡ r → bit i rules && not (bit i a) ≡ bit i rules && not (bit i (bitOr (bitOr (bitOr a c) d) b))
+    go i true on =
+        let none = off i on in
+        rw (bit-or i (bitOr (bitOr a c) d) b, bit-or i (bitOr a c) d, bit-or i a c, none .0, none .1, none .2, or-false (bit i a), or-false (bit i a), or-false (bit i a))
+    go i false on = rw on
+
 -- rules that tell no run places apart behind the first level
 pub together-shallow :
     (e : Each) (rules : ℕ) (q x : Request) → bitAnd (bitOr (bitOr (e .second .0) (e .third .0)) (e .fourth .0)) rules ≡ 0
     → rules - bitAnd rules (apartAt q x 0 (e .first .0)) ≡ togetherBy e rules q x
-unfolding togetherBy apartBy apartWithin
+unfolding togetherBy apartBy apartBeside
 together-shallow e rules q x none =
-    all-bits (rules - bitAnd rules (apartAt q x 0 (e .first .0))) (togetherBy e rules q x)
-    (λ i.
-    bit-without i rules (apartAt q x 0 (e .first .0))
-    ∙ same i (bit i rules) refl
-    ∙ sym (bit-without i rules (apartBy e q x) ∙ ap (λ (b : Bool). bit i rules && not b) (bit-or i (apartAt q x 0 (e .first .0)) (apartWithin e q x))))
+    only-first rules (apartAt q x 0 (e .first .0)) (apartAt q x 1 (e .second .0)) (apartAt q x 2 (e .third .0)) (apartAt q x 3 (e .fourth .0))
+    (λ i on.
+    let all = sym (bit-or i (bitOr (e .second .0) (e .third .0)) (e .fourth .0)) ∙ off i on in
+    let two = sym (bit-or i (e .second .0) (e .third .0)) ∙ neither-first (bit i (bitOr (e .second .0) (e .third .0))) (bit i (e .fourth .0)) all in (
+      either (eqb (levelValue (contextOf q) 1) (levelValue (contextOf x) 1)) (e .second .0) i (neither-first (bit i (e .second .0)) (bit i (e .third .0)) two),
+      either (eqb (levelValue (contextOf q) 2) (levelValue (contextOf x) 2)) (e .third .0) i (neither-second (bit i (e .second .0)) (bit i (e .third .0)) two),
+      either (eqb (levelValue (contextOf q) 3) (levelValue (contextOf x) 3)) (e .fourth .0) i (neither-second (bit i (bitOr (e .second .0) (e .third .0))) (bit i (e .fourth .0)) all),
+    ))
   where
     -- a level's mask, or nothing
     either : (b : Bool) (m i : ℕ) → bit i m ≡ false → bit i (cond b 0 m) ≡ false
@@ -87,22 +103,3 @@ together-shallow e rules q x none =
         ∙ sym (bit-and i (bitOr (bitOr (e .second .0) (e .third .0)) (e .fourth .0)) rules)
         ∙ ap (bit i) none
         ∙ bit-none i
-
-    within : (i : ℕ) → bit i rules ≡ true → bit i (apartWithin e q x) ≡ false
-    within i on =
-        let all = sym (bit-or i (bitOr (e .second .0) (e .third .0)) (e .fourth .0)) ∙ off i on in
-        let two = sym (bit-or i (e .second .0) (e .third .0)) ∙ neither-first (bit i (bitOr (e .second .0) (e .third .0))) (bit i (e .fourth .0)) all in
-        bit-or i (bitOr (apartAt q x 1 (e .second .0)) (apartAt q x 2 (e .third .0))) (apartAt q x 3 (e .fourth .0))
-        ∙ ap₂ {C = Bool} _||_
-        (bit-or i (apartAt q x 1 (e .second .0)) (apartAt q x 2 (e .third .0))
-        ∙ ap₂ {C = Bool} _||_
-        (either (eqb (levelValue (contextOf q) 1) (levelValue (contextOf x) 1)) (e .second .0) i (neither-first (bit i (e .second .0)) (bit i (e .third .0)) two))
-        (either (eqb (levelValue (contextOf q) 2) (levelValue (contextOf x) 2)) (e .third .0) i (neither-second (bit i (e .second .0)) (bit i (e .third .0)) two)))
-        (either (eqb (levelValue (contextOf q) 3) (levelValue (contextOf x) 3)) (e .fourth .0) i (neither-second (bit i (bitOr (e .second .0) (e .third .0))) (bit i (e .fourth .0)) all))
-
-    same : (i : ℕ) (b : Bool) → bit i rules ≡ b
-        → bit i rules && not (bit i (apartAt q x 0 (e .first .0))) ≡ bit i rules && not (bit i (apartAt q x 0 (e .first .0)) || bit i (apartWithin e q x))
-    same i true on =
-        ap (λ (b : Bool). bit i rules && not b)
-        (sym (ap (λ (b : Bool). bit i (apartAt q x 0 (e .first .0)) || b) (within i on) ∙ or-false (bit i (apartAt q x 0 (e .first .0)))))
-    same i false on = rw on

@@ -36,15 +36,15 @@ pub record EachOf (p : Policy) (e : Each) : Type 0 where
 unfoldable pub apartIn : Policy → Request → Request → ℕ
 apartIn p q x = bits (p .rules) (λ i. not (samePlace (p .rule i) q x))
 
--- what the code computes: a level's mask where the two requests differ in value at that level; those behind the first joined; and all four
+-- what the code computes: a level's mask where the two requests differ in value at that level; those of all levels but the second; and all four
 abbrev pub apartAt : Request → Request → ℕ → ℕ → ℕ
 apartAt q x l mask = cond (eqb (levelValue (contextOf q) l) (levelValue (contextOf x) l)) 0 mask
 
-unfoldable pub apartWithin : Each → Request → Request → ℕ
-apartWithin e q x = bitOr (bitOr (apartAt q x 1 (e .second .0)) (apartAt q x 2 (e .third .0))) (apartAt q x 3 (e .fourth .0))
+unfoldable pub apartBeside : Each → Request → Request → ℕ
+apartBeside e q x = bitOr (bitOr (apartAt q x 0 (e .first .0)) (apartAt q x 2 (e .third .0))) (apartAt q x 3 (e .fourth .0))
 
 unfoldable pub apartBy : Each → Request → Request → ℕ
-apartBy e q x = bitOr (apartAt q x 0 (e .first .0)) (apartWithin e q x)
+apartBy e q x = bitOr (apartBeside e q x) (apartAt q x 1 (e .second .0))
 
 -- of a set of rules, those under which the two requests share a run place
 unfoldable pub togetherBy : Each → ℕ → Request → Request → ℕ

@@ -6,7 +6,7 @@ ghost use Rattle.words.specs.Bytes.{part};
 ghost use Rattle.format.specs.Layout.{requestBytes};
 ghost use Rattle.format.specs.Policy.{policyOf};
 ghost use Rattle.policy_check.specs.Code.{CheckedIs};
-ghost use Rattle.matching.specs.Masks.{isEach, eachAt, EachOf, apartAt, apartWithin, apartBy, togetherBy};
+ghost use Rattle.matching.specs.Masks.{isEach, eachAt, EachOf, apartAt, apartBeside, apartBy, togetherBy};
 use fields::field::flag;
 use fields::field::u16_at;
 use fields::field::wide;
@@ -80,27 +80,27 @@ fn apart_at(q: &[u8], s: &[u8], at: usize, l: usize, mask: RuleSet) -> RuleSet
     }
 }
 
-// Those that tell the two requests apart at a level behind the first.
-fn apart_within(each: Each, q: &[u8], s: &[u8], at: usize) -> RuleSet
+// Those that tell the two requests apart at another level than the second.
+fn apart_beside(each: Each, q: &[u8], s: &[u8], at: usize) -> RuleSet
     requires { ⌜ (length (now q) ≡ requestBytes) × (at + requestBytes ≤ length (now s)) ⌝ }
-    ensures { λ r. ⌜ r .0 ≡ apartWithin each (now (q .entry)) (part (now (s .entry)) at requestBytes) ⌝ }
+    ensures { λ r. ⌜ r .0 ≡ apartBeside each (now (q .entry)) (part (now (s .entry)) at requestBytes) ⌝ }
 {
-    apart_at(q, s, at, 1, each.second)
+    apart_at(q, s, at, 0, each.first)
         .or(apart_at(q, s, at, 2, each.third))
         .or(apart_at(q, s, at, 3, each.fourth))
 }
 
-// Of these rules, those under which the request q and the one at a byte share a run place. The levels behind the first come first: a job
-// tells more requests apart than its depot.
+// Of these rules, those under which the request q and the one at a byte share a run place. The second level comes first, and mostly alone: a
+// job tells more requests apart than its depot, and a works has more jobs than anything below one.
 pub fn together(each: Each, rules: RuleSet, q: &[u8], s: &[u8], at: usize) -> RuleSet
     requires { ⌜ (length (now q) ≡ requestBytes) × (at + requestBytes ≤ length (now s)) ⌝ }
     ensures { λ r. ⌜ r .0 ≡ togetherBy each (rules .0) (now (q .entry)) (part (now (s .entry)) at requestBytes) ⌝ }
 {
-    let near = rules.without(apart_within(each, q, s, at));
+    let near = rules.without(apart_at(q, s, at, 1, each.second));
     if near.is_empty() {
         return near;
     }
-    near.without(apart_at(q, s, at, 0, each.first))
+    near.without(apart_beside(each, q, s, at))
 }
 
 // The rules under which the request q and the one at a byte have different run places.
@@ -108,7 +108,7 @@ pub fn apart(each: Each, q: &[u8], s: &[u8], at: usize) -> RuleSet
     requires { ⌜ (length (now q) ≡ requestBytes) × (at + requestBytes ≤ length (now s)) ⌝ }
     ensures { λ r. ⌜ r .0 ≡ apartBy each (now (q .entry)) (part (now (s .entry)) at requestBytes) ⌝ }
 {
-    apart_at(q, s, at, 0, each.first).or(apart_within(each, q, s, at))
+    apart_beside(each, q, s, at).or(apart_at(q, s, at, 1, each.second))
 }
 
 // What `together` gives, for a set of rules that is asked of many records: levels behind the first are looked at only if one of the rules tells run

@@ -1,11 +1,11 @@
--- `matching::masks::apart_within` meets its contract.
+-- `matching::masks::apart_beside` meets its contract.
 -- Assumes nothing.
 use mathlib.Core.Path.{ap₂, _∙_}
 use lib.Bits.{bitOr}
-use Rattle.matching.specs.Masks.{apartWithin}
+use Rattle.matching.specs.Masks.{apartBeside}
 use borrow.Author.Needs.{needs}
-use Rattle.matching.proofs.masks.apart_within.Statement.{statement}
-use Rattle.matching.proofs.masks.apart_within.Tie as tie
+use Rattle.matching.proofs.masks.apart_beside.Statement.{statement}
+use Rattle.matching.proofs.masks.apart_beside.Tie as tie
 
 apart-at-requires : tie.Need-apart-at-requires
 apart-at-requires c κs = search needs
@@ -23,7 +23,7 @@ or-requires-2 : tie.Need-or-requires-2
 or-requires-2 c κs = search needs
 
 returns : tie.Need-returns
-unfolding apartWithin
+unfolding apartBeside
 returns c =
     let two = c .before .before in
     c .or2 .ensures
@@ -31,5 +31,5 @@ returns c =
     (two .or .ensures ∙ ap₂ bitOr (two .before .before .apart-at .ensures) (two .before .apart-at2 .ensures))
     (c .before .apart-at3 .ensures)
 
-pub apart-within-spec : {M : Type 1} → statement M
-apart-within-spec = tie.close (tie.spec apart-at-requires apart-at-requires-2 or-requires apart-at-requires-3 or-requires-2 returns)
+pub apart-beside-spec : {M : Type 1} → statement M
+apart-beside-spec = tie.close (tie.spec apart-at-requires apart-at-requires-2 or-requires apart-at-requires-3 or-requires-2 returns)
