@@ -77,12 +77,15 @@ fn move_record(table: &mut [u8], from: usize, to: usize, marks: RuleSet)
     put_u32(table, to + MARKS_AT, marks.0);
 }
 
-// The record at a byte is the request that begins at a byte of a slice, with these marks.
+// The record at a byte is the request that begins at a byte of a slice, with these marks. Where no record is there are no marks, so marks come first.
 fn stands(table: &[u8], to: usize, request: &[u8], from: usize, marks: RuleSet) -> bool
     requires { ⌜ (to + recordBytes ≤ length (now table)) × (from + requestBytes ≤ length (now request)) ⌝ }
     ensures { λ r. ⌜ r ≡ sameRecord (recordFrom (now (table .entry)) to) (record { request = part (now (request .entry)) from requestBytes; marks = marks .0 }) ⌝ }
 {
-    same_words(table, to, request, from, REQUEST_WORDS) & (request::marks(table, to).0 == marks.0)
+    if request::marks(table, to).0 != marks.0 {
+        return false;
+    }
+    same_words(table, to, request, from, REQUEST_WORDS)
 }
 
 // ---- a record at its place
