@@ -41,7 +41,7 @@ pub no-block : (k : ℕ) → hasBlock noBlock k ≡ false
 no-block k = has-none noBlock k refl
 
 -- the number with one bit, as the code makes it
-power : (k : ℕ) → k < 64 → 1 * 2 ^ k % 2 ^ 64 ≡ 2 ^ k
+pub power : (k : ℕ) → k < 64 → 1 * 2 ^ k % 2 ^ 64 ≡ 2 ^ k
 power k h = omega (arith, pow-lt {i = k} {j = 64} h)
 
 or-bit : (i k x : ℕ) → k < 64 → bit i (bitOr x (1 * 2 ^ k % 2 ^ 64)) ≡ eqb i k || bit i x

@@ -1,8 +1,8 @@
 // Sets of roles and sets of rules, each as the bits of a number. They are different types: one passed for the other does not build.
 ghost use mathlib.Core.Path.{_≡_};
-ghost use Prim.Native.Nat.{_-_, _<_, _≤_};
+ghost use Prim.Native.Nat.{_-_, _^_, _<_, _≤_};
 ghost use lib.Bits.{bitAnd, bitOr};
-ghost use lib.Dec.{eqb};
+ghost use lib.Dec.{eqb, ltb};
 ghost use Rattle.words.specs.Bytes.{bit as bitOf};
 use crate::field::bit;
 use crate::field::without;
@@ -38,6 +38,14 @@ impl RuleSet {
         ensures { λ r. ⌜ r ≡ bitOf i (self .0) ⌝ }
     {
         bit(self.0, i)
+    }
+
+    // None of them has this index or a higher one.
+    pub fn none_from(self, i: u32) -> bool
+        requires { ⌜ i ≤ 32 ⌝ }
+        ensures { λ r. ⌜ r ≡ ltb (self .0) (2 ^ i) ⌝ }
+    {
+        (self.0 as u64) < 1u64 << i
     }
 
     // There is none.

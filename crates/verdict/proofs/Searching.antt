@@ -1,17 +1,21 @@
 -- Step 3: the search through the rules that judge and their exclusions.
 -- Assumes nothing.
-use Prim.Native.Nat.{ℕ, _+_, _-_, _*_, _≤_, _<_}
+use Prim.Native.Nat.{ℕ, _+_, _-_, _*_, _^_, _≤_, _<_}
+use native.Mathlib.Decide.{decLt}
 use native.Mathlib.Omega.{arith}
 use mathlib.Core.Path.{_≡_, sym, ap, _∙_, subst, subst⁻¹}
-use mathlib.Core.Bool.{Bool, true, false, cond, not}
+use mathlib.Core.Bool.{Bool, true, false, cond, not, false≢true}
 use mathlib.Core.List.{List, [], _∷_, _++_}
 use mathlib.Core.Option.{Option, none, some}
 use lib.ListN.{length}
-use lib.Dec.{eqb}
+use lib.Dec.{eqb, ltb}
+use borrow.Author.Tests.{lt-ltb, ltb-true}
 use Rattle.words.specs.First.{unless, first}
 use Rattle.words.specs.Bytes.{byteAt, bit}
 use Rattle.word_laws.proofs.Parts.{byteAt-part}
-use Rattle.word_laws.proofs.First.{first-more}
+use Rattle.word_laws.proofs.First.{first-more, first-none}
+use Rattle.word_laws.proofs.Bits.{bit-beyond}
+use Rattle.word_laws.proofs.BitLaws.{bits-of}
 use Rattle.format.specs.Answer.{Refusal, refusal}
 use Rattle.format.specs.Layout.{blockBytes, mostRules, mostExclusions, exclusionsAt}
 use Rattle.format.specs.Block.{block}
@@ -54,6 +58,23 @@ module _ (policy : List ℕ) (rules : ℕ) (each : Each) (q : Request) (table fo
         (b : List ℕ) (n : ℕ) → bit i rules ≡ true → b ≡ block policy i → n ≡ byteAt b exclusionsAt
         → left (ruleFails policy rules each q table found) (failsAt b i (counts each q table found i)) i mostRules 0 n ≡ t
     rule-judges b n e f k = row-enter (ruleFails policy rules each q table found) (failsAt b i (counts each q table found i)) i mostRules n h l (heard b n e f k)
+
+-- the rules end where none that judges has an index as high
+module _ (rules i : ℕ) where
+  pub few-rules : rules < 4294967296 → i ≤ mostRules → ltb rules (2 ^ i) ≡ false → i < mostRules
+  few-rules most le more = go (decLt i mostRules)
+    where
+      go : Dec (i < mostRules) → i < mostRules
+      go (yes l) = l
+      go (no g) = let e : i ≡ 32 = omega arith in absurd (false≢true (sym more ∙ lt-ltb rules (2 ^ i) (rw e most)))
+
+  pub rules-done : (policy : List ℕ) (each : Each) (q : Request) (table found : List ℕ) {t : Option Refusal}
+      → first (ruleFails policy rules each q table found) i (mostRules - i) ≡ t → ltb rules (2 ^ i) ≡ true → none ≡ t
+  rules-done policy each q table found h none-left =
+      sym (first-none (ruleFails policy rules each q table found) i (mostRules - i) (λ j lo hi. silent policy rules each q table found j (off j lo))) ∙ h
+    where
+      off : (j : ℕ) → i ≤ j → bit j rules ≡ false
+      off j lo = ap (bit j) (bits-of i rules (ltb-true rules (2 ^ i) none-left)) ∙ bit-beyond i (λ k. bit k rules) j lo
 
 -- ---- one exclusion
 

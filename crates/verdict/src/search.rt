@@ -14,7 +14,6 @@ use fields::layout::BLOCK_BYTES;
 use fields::layout::EXCLUSION_BYTES;
 use fields::layout::EXCLUSION_KIND_AT;
 use fields::layout::EXCLUSIONS_AT;
-use fields::layout::MOST_RULES;
 use fields::sets::RuleSet;
 use format::answer::Fault;
 use format::answer::Refusal;
@@ -50,7 +49,7 @@ pub fn first_failing(
 {
     let mut i = 0u32;
     'rules: loop {
-        if MOST_RULES <= i {
+        if judging.rules.none_from(i) {
             break 'rules Failing::Nowhere;
         }
         if !judging.rules.has(i) {

@@ -11,7 +11,7 @@ use borrow.Author.Tests.{not-true, not-false}
 use lib.ListN.{length, take, drop, length-take}
 use Rattle.words.specs.First.{first}
 use Rattle.words.specs.Bytes.{bit}
-use Rattle.word_laws.proofs.First.{first-start, first-done}
+use Rattle.word_laws.proofs.First.{first-start}
 use Rattle.word_laws.proofs.Parts.{part-to}
 use Rattle.format.specs.Answer.{Refusal}
 use Rattle.format.specs.Layout.{mostRules}
@@ -26,7 +26,7 @@ use Rattle.verdict.specs.Code.{ruleFails}
 use Rattle.verdict.specs.declared.search.Judging.{Judging}
 use Rattle.verdict.proofs.AcceptedEntries.{exclusion-ready}
 use Rattle.verdict.proofs.Nested.{left, row-hit, row-more, row-done}
-use Rattle.verdict.proofs.Searching.{failsAt, counts, rule-silent, rule-judges, exclusion-fails, exclusion-passes}
+use Rattle.verdict.proofs.Searching.{failsAt, counts, few-rules, rules-done, rule-silent, rule-judges, exclusion-fails, exclusion-passes}
 use borrow.Author.Needs.{needs}
 use Rattle.verdict.proofs.search.first_failing.Statement.{statement}
 use Rattle.verdict.proofs.search.first_failing.Tie as tie
@@ -57,35 +57,47 @@ abbrev μ-rules : tie.MeasureT-rules
 rules-holds : tie.Need-rules-holds Inv-loop μ-loop Inv-rules μ-rules
 rules-holds c = (omega arith, search needs, first-start _ _)
 
+none-from-requires : tie.Need-none-from-requires Inv-loop μ-loop Inv-rules μ-rules
+none-from-requires c κs = search needs
+
+-- a rule is left, so the one at hand is one of all
+few : (c : tie.Else1 Inv-loop μ-loop Inv-rules μ-rules) → c .before .before .rules .i < mostRules
+few c =
+    let rules = c .before .before .rules in
+    few-rules (c .before .before .before .before .before .before .before .before .args .judging .rules .0) (rules .i) (omega arith) (rules .inv .0) (sym (c .before .none-from .ensures) ∙ c .if1 .left)
+
 has-requires : tie.Need-has-requires Inv-loop μ-loop Inv-rules μ-rules
-has-requires c κs = search needs
+has-requires c κs = few c
 
 add-i : tie.Need-add-i Inv-loop μ-loop Inv-rules μ-rules
 add-i c = search needs
 
 rules-less : tie.Need-rules-less Inv-loop μ-loop Inv-rules μ-rules
-rules-less c = search needs
+rules-less c = omega (arith, few (c .before .before))
 
 rules-again : tie.Need-rules-again Inv-loop μ-loop Inv-rules μ-rules
 rules-again c =
-    let a = c .before .before .before .before .before .before .before .before .before .args in
-    let rules = c .before .before .before .rules in
+    let a = c .before .before .before .before .before .before .before .before .before .before .args in
+    let rules = c .before .before .before .before .rules in
     let has = c .before .has in (
+      omega (arith, few (c .before .before)),
       omega arith,
-      omega arith,
-      rule-silent (a .policy .now) (a .judging .rules .0) (a .judging .each) (a .q .now) (a .table .now) (a .found .now) (rules .i) (rules .inv .2) (omega arith)
+      rule-silent (a .policy .now) (a .judging .rules .0) (a .judging .each) (a .q .now) (a .table .now) (a .found .now) (rules .i) (rules .inv .2) (few (c .before .before))
           (sym (has .ensures) ∙ not-true (has .result) (c .if2 .taken)),
     )
 
 -- the call, from behind the test that the rule at hand judges, and that rule
 abbrev call : tie.Else2 Inv-loop μ-loop Inv-rules μ-rules → tie.Start Inv-loop μ-loop Inv-rules μ-rules
-call c = c .before .before .before .before .before .before .before .before .before
+call c = c .before .before .before .before .before .before .before .before .before .before
 
 abbrev rule : tie.Else2 Inv-loop μ-loop Inv-rules μ-rules → ℕ
-rule c = c .before .before .before .rules .i
+rule c = c .before .before .before .before .rules .i
 
 -- a rule that judges is one of the policy's, so that its block stands in the image
 module _ (c : tie.Else2 Inv-loop μ-loop Inv-rules μ-rules) where
+  low : rule c < mostRules
+  low = few (c .before .before)
+
   judges : bit (rule c) (call c .args .judging .rules .0) ≡ true
   judges = let has = c .before .has in sym (has .ensures) ∙ not-false (has .result) (c .if2 .left)
 
@@ -115,8 +127,8 @@ part-b-end c = omega (arith, inside c)
 
 past-of-requires : tie.Need-past-of-requires Inv-loop μ-loop Inv-rules μ-rules
 past-of-requires c κs =
-    let s = c .before .before .before .before .before .before .before .before .before .before .before in
-    ((s .pre .1 .0 .0, omega arith, omega (arith, c .before .before .before .before .before .rules .inv .1)), s .pre .1 .1)
+    let s = c .before .before .before .before .before .before .before .before .before .before .before .before in
+    ((s .pre .1 .0 .0, low (c .before .before), omega (arith, c .before .before .before .before .before .before .rules .inv .1)), s .pre .1 .1)
 
 mul-end : tie.Need-mul-end Inv-loop μ-loop Inv-rules μ-rules
 mul-end c = omega (arith, c .before .before .past-of .ensures .0)
@@ -131,9 +143,9 @@ loop-holds : tie.Need-loop-holds Inv-loop μ-loop Inv-rules μ-rules
 loop-holds c =
     let d = c .before .before .before .before .before .before .before in
     let a = call d .args in
-    let rules = d .before .before .before .rules in (
+    let rules = d .before .before .before .before .rules in (
       omega arith,
-      rule-judges (a .policy .now) (a .judging .rules .0) (a .judging .each) (a .q .now) (a .table .now) (a .found .now) (rules .i) (rules .inv .2) (omega arith)
+      rule-judges (a .policy .now) (a .judging .rules .0) (a .judging .each) (a .q .now) (a .table .now) (a .found .now) (rules .i) (rules .inv .2) (low d)
           _ (c .wide .result) (judges d) (part-to (a .policy .now) (512 * rules .i) 512) (c .wide .ensures .0),
     )
 
@@ -174,7 +186,7 @@ module _ (c : tie.After-reaches Inv-loop μ-loop Inv-rules μ-rules) where
       let past-of = c .before .before .before .before .before .before .before .before .before .past-of in
       c .reaches .ensures (pastBy (a .judging .each) (a .q .now) i (a .table .now) (a .found .now))
       (rw (sub-zero (2 * past-of .result)) (past-of .ensures .1))
-      (past-small (a .judging .each) (a .q .now) i (a .table .now) (a .found .now) (λ k. c .before .before .before .before .before .before .before .before .before .before .before .before .before .before .before .before .before .before .shared-slice-known3 .given k .fits))
+      (past-small (a .judging .each) (a .q .now) i (a .table .now) (a .found .now) (λ k. c .before .before .before .before .before .before .before .before .before .before .before .before .before .before .before .before .before .before .before .shared-slice-known3 .given k .fits))
 
 add-e : tie.Need-add-e Inv-loop μ-loop Inv-rules μ-rules
 add-e c = search needs
@@ -198,16 +210,16 @@ add-i-2 : tie.Need-add-i-2 Inv-loop μ-loop Inv-rules μ-rules
 add-i-2 c = search needs
 
 rules-less-2 : tie.Need-rules-less-2 Inv-loop μ-loop Inv-rules μ-rules
-rules-less-2 c = search needs
+rules-less-2 c = omega (arith, low (c .before .before .before .before .before .before .before .before .before))
 
 rules-again-2 : tie.Need-rules-again-2 Inv-loop μ-loop Inv-rules μ-rules
 rules-again-2 c =
     let d = c .before .before .before .before .before .before .before .before .before in
     let a = call d .args in
-    let rules = d .before .before .before .rules in
+    let rules = d .before .before .before .before .rules in
     let i = rules .i in
     let l = c .before .loop in (
-      omega arith,
+      omega (arith, low d),
       omega (arith, c .before .before .before .before .before .before .past-of .ensures .2, rules .inv .1),
       row-done (fails (a .policy .now) (a .judging) (a .q .now) (a .table .now) (a .found .now)) (failsAt (here (a .policy .now) i) i (counts (a .judging .each) (a .q .now) (a .table .now) (a .found .now) i)) i mostRules (l .e) (c .before .before .wide .result) (l .inv .1) (c .loop-test .left),
     )
@@ -217,8 +229,9 @@ same-length c = search needs
 
 returns : tie.Need-returns Inv-loop μ-loop Inv-rules μ-rules
 returns c =
-    let rules = c .before .rules in
-    (first-done _ (rules .i) mostRules (rules .inv .2) (c .if1 .taken), tt)
+    let rules = c .before .before .rules in
+    let a = c .before .before .before .before .before .before .before .before .args in
+    (rules-done (a .judging .rules .0) (rules .i) (a .policy .now) (a .judging .each) (a .q .now) (a .table .now) (a .found .now) (rules .inv .2) (sym (c .before .none-from .ensures) ∙ c .if1 .taken), tt)
 
 same-length-2 : tie.Need-same-length-2 Inv-loop μ-loop Inv-rules μ-rules
 same-length-2 c = search needs
@@ -235,7 +248,7 @@ returns-2 c =
     let b-is = part-to (a .policy .now) (512 * i) 512 in (
       row-hit (fails (a .policy .now) (a .judging) (a .q .now) (a .table .now) (a .found .now)) (failsAt (here (a .policy .now) i) i (counts (a .judging .each) (a .q .now) (a .table .now) (a .found .now) i)) i mostRules (l .e) (wide .result) (l .inv .1) taken
           (exclusion-fails (a .policy .now) (here (a .policy .now) i) i (l .e) (counts (a .judging .each) (a .q .now) (a .table .now) (a .found .now) i) (c .before .reaches .result) (reached-is (c .before)) (c .if3 .taken) b-is),
-      (omega arith, exclusion-ready (a .policy .now) (s .pre .0 .accepted) _ i (l .e) (wide .result) (below d) b-is (wide .ensures .0) taken .1, inside d),
+      (low d, exclusion-ready (a .policy .now) (s .pre .0 .accepted) _ i (l .e) (wide .result) (below d) b-is (wide .ensures .0) taken .1, inside d),
     )
 
 pub first-failing-spec : {M : Type 1} → statement M
@@ -247,6 +260,7 @@ first-failing-spec =
     Inv-rules
     μ-rules
     rules-holds
+    none-from-requires
     has-requires
     add-i
     rules-less
