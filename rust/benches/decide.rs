@@ -12,7 +12,9 @@
 //!
 //!     SOD_BEFORE=/path/to/libsod.so cargo bench --offline
 //!
-//! measures an earlier engine, as a shared library, in the same rounds.
+//! measures an earlier engine, as a shared library, in the same rounds. With `SOD_AFTER` beside it, the
+//! engine is one, too, but for previews and blocks touched: then both are called in the same way, and
+//! tools/places can put them where it likes.
 //!
 //! Each decision is then measured as a preview, with the decision itself in the same rounds; and what a
 //! last step costs for each block that it touches ([`touched`]).
@@ -46,7 +48,10 @@ fn main() {
     if let Some(word) = &word {
         workloads.retain(|workload| workload.name.contains(word));
     }
-    let before = Earlier::load().map(Beside::Earlier);
+    let before = Earlier::load("SOD_BEFORE").map(|before| Beside::Earlier {
+        before,
+        after: Earlier::load("SOD_AFTER"),
+    });
     println!("Median time of one call in microseconds; the last columns are ratios.\n");
     table(&workloads, &before);
     println!("\nPreviews, beside the engine's decision with the same answer.\n");
@@ -142,7 +147,7 @@ fn row(workload: &Workload, beside: &Option<Beside>) {
         rust / sums
     );
     if beside.is_some() {
-        print!(" {other:>8.2} | {:>13.3} |", engine / other);
+        print!(" {other:>8.3} | {:>13.3} |", engine / other);
     }
     println!();
 }
@@ -161,8 +166,12 @@ enum Call {
 
 /// What else is measured in the same rounds.
 enum Beside {
-    /// The same call of an earlier engine, which need not have a preview.
-    Earlier(Earlier),
+    /// The same call of an earlier engine, which need not have a preview; and the engine, if it is a
+    /// shared library as well.
+    Earlier {
+        before: Earlier,
+        after: Option<Earlier>,
+    },
     /// The engine's decision of the same request.
     Decision,
 }
@@ -170,7 +179,7 @@ enum Beside {
 impl Beside {
     fn name(&self) -> &'static str {
         match self {
-            Beside::Earlier(_) => "before",
+            Beside::Earlier { .. } => "before",
             Beside::Decision => "decide",
         }
     }
@@ -206,13 +215,18 @@ impl Workload {
         let mut tables = self.copies();
         let mut times = [const { vec![] }; 4];
         for _ in 0..ROUNDS {
-            times[0].push(self.time(&mut tables, |w, table| w.by_engine(table)));
+            times[0].push(match beside {
+                Some(Beside::Earlier {
+                    after: Some(after), ..
+                }) => self.time(&mut tables, |w, table| w.by_earlier(after, table)),
+                _ => self.time(&mut tables, |w, table| w.by_engine(table)),
+            });
             times[1].push(self.time(&mut tables, |w, table| w.by_rust(table)));
             times[2].push(self.time(&mut tables, |w, table| w.by_sums(table)));
             times[3].push(match beside {
                 None => 0.0,
-                Some(Beside::Earlier(engine)) => {
-                    self.time(&mut tables, |w, table| w.by_earlier(engine, table))
+                Some(Beside::Earlier { before, .. }) => {
+                    self.time(&mut tables, |w, table| w.by_earlier(before, table))
                 }
                 Some(Beside::Decision) => self.time(&mut tables, |w, table| w.decided(table)),
             });

@@ -1,4 +1,4 @@
-//! An earlier engine, for a benchmark of both in one run: the shared library that `SOD_BEFORE` names.
+//! An engine as a shared library, for a benchmark of two in one run.
 
 use std::ffi::{c_char, c_int, c_void, CString};
 
@@ -27,9 +27,9 @@ pub struct Earlier {
 }
 
 impl Earlier {
-    /// The engine that the environment names, if it names one.
-    pub fn load() -> Option<Earlier> {
-        let file = std::env::var("SOD_BEFORE").ok()?;
+    /// The library that a variable of the environment names, if it names one.
+    pub fn load(variable: &str) -> Option<Earlier> {
+        let file = std::env::var(variable).ok()?;
         let path = CString::new(file.as_str()).expect("a path");
         // SAFETY: the functions are those of include/sod.h, with the types that it gives.
         unsafe {

@@ -202,8 +202,8 @@ impl Touched {
             "|-------:|--------|----------:|--------:|----------:|-----------------------------:|"
         );
         let mut by = vec![By::Engine, By::Rust];
-        if let Some(Beside::Earlier(earlier)) = before {
-            by.push(By::Before(earlier));
+        if let Some(Beside::Earlier { before, .. }) = before {
+            by.push(By::Before(before));
         }
         for blocks in TOUCHED {
             for (by, [last_step, refused, fresh, policy]) in
