@@ -523,29 +523,19 @@ impl Typical {
             other
         };
         let closed = quick::decide(&self.policy, &mut nearly.clone(), &closing);
+        // A grant that only appends writes one block.
+        let appended = |name: &str, table: &[u8], held| Workload {
+            written: Some(1),
+            ..self.decide(name, table, new_job(ADJUST), Reply::grant(1, 0, held))
+        };
         let check = |name: &str, call, table: &[u8], expected| Workload {
             call,
             ..self.decide(name, table, vec![], expected)
         };
         vec![
-            self.decide(
-                "empty table, 1 block: grant, recorded",
-                &empty(1),
-                new_job(ADJUST),
-                Reply::grant(1, 0, 1),
-            ),
-            self.decide(
-                "empty table, 128 blocks: grant, recorded",
-                &empty(128),
-                new_job(ADJUST),
-                Reply::grant(1, 0, 1),
-            ),
-            self.decide(
-                "full but one, 128: grant, recorded",
-                &nearly,
-                new_job(ADJUST),
-                Reply::grant(1, 0, places(128)),
-            ),
+            appended("empty table, 1 block: grant, recorded", &empty(1), 1),
+            appended("empty table, 128 blocks: grant, recorded", &empty(128), 1),
+            appended("full but one, 128: grant, recorded", &nearly, places(128)),
             self.decide(
                 "full but one, 128: last step, some removed",
                 &nearly,
