@@ -90,8 +90,8 @@ fn apart_beside(each: Each, q: &[u8], s: &[u8], at: usize) -> RuleSet
         .or(apart_at(q, s, at, 3, each.fourth))
 }
 
-// Of these rules, those under which the request q and the one at a byte share a run place. The second level comes first, and mostly alone: a
-// job tells more requests apart than its depot, and a works has more jobs than anything below one.
+// Of these rules, those under which the request q and the one at a byte share a run place. The second level comes first, and is mostly enough:
+// a job tells more requests apart than its depot, and few rules count by what is inside a job.
 pub fn together(each: Each, rules: RuleSet, q: &[u8], s: &[u8], at: usize) -> RuleSet
     requires { ⌜ (length (now q) ≡ requestBytes) × (at + requestBytes ≤ length (now s)) ⌝ }
     ensures { λ r. ⌜ r .0 ≡ togetherBy each (rules .0) (now (q .entry)) (part (now (s .entry)) at requestBytes) ⌝ }
