@@ -68,12 +68,14 @@ pub const LEVEL_VALUE_AT: usize = 20;
 
 pub const LEVEL_TAIL_AT: usize = 22;
 
-// "Marks: 1 fixed .., 2 every, 3 each"
+// "Marks: 1 fixed .., 2 every, 3 each", and 4 a range, whose low value stands where the value does and whose high one is the level's tail (W4)
 pub const FIXED: u8 = 1;
 
 pub const EVERY: u8 = 2;
 
 pub const EACH: u8 = 3;
+
+pub const RANGE: u8 = 4;
 
 pub const FIRST_STEP_AT: usize = 48;
 

@@ -164,6 +164,10 @@ every t = level t 2 0
 abbrev each : ℕ → Level
 each t = level t 3 0
 
+-- W4: mark 4, from a low value to a high one
+abbrev range : ℕ → ℕ → ℕ → Level
+range t l h = record { type = t; mark = 4; pad = 0; value = l; tail = h }
+
 abbrev privilege : ℕ → ℕ → Privilege
 privilege o t = record { operation = o; target = t }
 
@@ -230,6 +234,22 @@ pub rule-levels :
     ≡ (false ∷ true ∷ false ∷ []) ∷ (true ∷ false ∷ false ∷ []) ∷ (true ∷ false ∷ false ∷ false ∷ []) ∷ []
 unfolding opened
 rule-levels = refl
+
+-- a level whose last two bytes are not zero
+abbrev tailed : ℕ → ℕ → Level
+tailed m v = record { type = 1; mark = m; pad = 0; value = v; tail = 199 }
+
+-- W4, "A low of 0 or a low above the high gives 4". Good: 100 to 199, one value, all values. Bad: a low of 0, a low one above the high, no high, no type,
+-- a byte that is to be zero. With the marks 1 to 3 the last two bytes are zero, and here they are not
+pub rule-ranges :
+    map (map (λ l. goodRule (rule (l ∷ []))))
+    ((range 1 100 199 ∷ range 1 100 100 ∷ range 1 1 65535 ∷ [])
+    ∷ (range 1 0 199 ∷ range 1 200 199 ∷ range 1 100 0 ∷ range 0 100 199 ∷ record { type = 1; mark = 4; pad = 1; value = 100; tail = 199 } ∷ [])
+    ∷ (tailed 1 100 ∷ tailed 2 0 ∷ tailed 3 0 ∷ [])
+    ∷ [])
+    ≡ replicate 3 true ∷ replicate 5 false ∷ replicate 3 false ∷ []
+unfolding opened
+rule-ranges = refl
 
 -- a rule with this first step, and operation 5 on target 1 as its last
 abbrev stepped : Step → Bool
@@ -309,6 +329,16 @@ pub fits-levels :
 unfolding opened
 fits-levels = refl
 
+-- W4, "from low to high, both included": depots one below the low, at the low, between, at the high, one above it; job 150; and at the second level of two
+pub fits-range :
+    (map (λ v. fitting (range 1 100 199 ∷ []) (1 ∷ v ∷ [])) (99 ∷ 100 ∷ 150 ∷ 199 ∷ 200 ∷ [])
+    ∷ (fitting (range 1 100 199 ∷ []) (2 ∷ 150 ∷ []) ∷ [])
+    ∷ map (λ v. fitting (every 1 ∷ range 2 7 7 ∷ []) (1 ∷ 5 ∷ 2 ∷ v ∷ [])) (6 ∷ 7 ∷ 8 ∷ [])
+    ∷ [])
+    ≡ (false ∷ true ∷ true ∷ true ∷ false ∷ []) ∷ (false ∷ []) ∷ (false ∷ true ∷ false ∷ []) ∷ []
+unfolding opened
+fits-range = refl
+
 -- "at least the rule's depth": rules of depth 0 to 4 on a context of four levels, of two, of none
 pub fits-depths :
     map (λ c. map (λ d. fitting (take d (every 1 ∷ each 2 ∷ every 3 ∷ each 4 ∷ [])) c) (0 ∷ 1 ∷ 2 ∷ 3 ∷ 4 ∷ []))
@@ -338,6 +368,14 @@ pub shared-every :
     ≡ (true ∷ true ∷ false ∷ []) ∷ (true ∷ true ∷ []) ∷ []
 unfolding opened
 shared-every = refl
+
+-- W4, "All values in the range share a run place": depots 100 and 199 for one job; but two jobs do not, where job is "each"
+pub shared-range :
+    map (λ c. samePlace (rule (range 1 100 199 ∷ each 2 ∷ [])) (asked (1 ∷ 100 ∷ 2 ∷ 90 ∷ [])) (asked c))
+    ((1 ∷ 199 ∷ 2 ∷ 90 ∷ []) ∷ (1 ∷ 199 ∷ 2 ∷ 91 ∷ []) ∷ [])
+    ≡ true ∷ false ∷ []
+unfolding opened
+shared-range = refl
 
 -- ---- policy blocks. A byte that a list here does not have reads as zero, so these blocks are written up to their last byte that is not zero
 

@@ -23,6 +23,16 @@ pub record Level : Type 0 where
   pub value : ℕ
   pub tail : ℕ
 
+-- W4: "Level mark 4 takes a low value where the value stands and a high value in the last two bytes of the level."
+abbrev pub isRange : Level → Bool
+isRange l = eqb (l .mark) 4
+
+abbrev pub low : Level → ℕ
+low l = l .value
+
+abbrev pub high : Level → ℕ
+high l = l .tail
+
 -- "operation (2), target (2)". A member of kind 1 has the same form: "roles 1 to 32 (2), zero (2)".
 pub record Privilege : Type 0 where
   pub operation : ℕ
@@ -105,9 +115,17 @@ fullPrivilege p = not (eqb (p .operation) 0) && not (eqb (p .target) 0)
 unfoldable pub goodMark : ℕ → ℕ → Bool
 goodMark mark value = (eqb mark 1 && not (eqb value 0)) || ((eqb mark 2 || eqb mark 3) && eqb value 0)
 
+-- W4: "A low of 0 or a low above the high gives 4."
+abbrev pub goodRange : ℕ → ℕ → ℕ → Bool
+goodRange mark low high = eqb mark 4 && not (eqb low 0) && leb low high
+
+-- "value (2), zero (2)" of a level with its mark: with mark 4 they are the low and the high value
+abbrev pub goodValues : ℕ → ℕ → ℕ → Bool
+goodValues mark value tail = (goodMark mark value && eqb tail 0) || goodRange mark value tail
+
 -- "Types of used levels are 1 to 65535"
 unfoldable pub goodLevel : Level → Bool
-goodLevel l = not (eqb (l .type) 0) && goodMark (l .mark) (l .value) && eqb (l .pad) 0 && eqb (l .tail) 0
+goodLevel l = not (eqb (l .type) 0) && goodValues (l .mark) (l .value) (l .tail) && eqb (l .pad) 0
 
 -- "levels past the depth are all zero"
 unfoldable pub blankLevel : Level → Bool

@@ -2,18 +2,19 @@
 -- Assumes nothing.
 use Prim.Native.Nat.{ℕ, _+_, _*_, _<_}
 use native.Mathlib.Omega.{arith}
-use mathlib.Core.Path.{_≡_, refl, ap, _∙_}
-use mathlib.Core.Bool.{Bool, true, false, cond, not, _||_}
+use mathlib.Core.Path.{_≡_, refl, sym, ap, _∙_}
+use mathlib.Core.Bool.{Bool, true, false, cond, not, _&&_, _||_, and-true}
 use mathlib.Core.List.{List}
-use lib.Dec.{eqb}
+use lib.Dec.{eqb, leb}
+use borrow.Author.Tests.{ne-eqb}
 use Rattle.words.specs.Lists.{allBelow}
 use Rattle.words.specs.Bytes.{u16At, part}
 use Rattle.word_laws.proofs.Parts.{u16At-part}
 use Rattle.word_laws.proofs.Tests.{allBelow-same}
 use Rattle.word_laws.proofs.Same.{same-tabs}
 use Rattle.format.specs.Request.{Request, contextOf, levelValue}
-use Rattle.format.specs.Rule.{Rule, Level}
-use Rattle.format.specs.Fits.{placeValue, place, samePlace}
+use Rattle.format.specs.Rule.{Rule, Level, low, high}
+use Rattle.format.specs.Fits.{valueFits, placeValue, place, samePlace}
 use Rattle.matching.specs.Levels.{sameAt}
 use Rattle.request_check.proofs.RequestWords.{context-at}
 
@@ -24,6 +25,17 @@ module _ (s : List ℕ) (at i : ℕ) (four : i < 4) where
   value-at =
       rw (context-at s at)
       (u16At-part s (at + 12) 16 (4 * i + 2) (omega arith) ∙ ap (u16At s) (omega arith))
+
+-- ---- what a mark asks of a value
+
+pub fixed-value : (l : Level) (v : ℕ) → l .mark ≡ 1 → eqb v (l .value) ≡ valueFits l v
+fixed-value l v e = rw e (sym (and-true _))
+
+pub range-value : (l : Level) (v : ℕ) → l .mark ≡ 4 → leb (low l) v && leb v (high l) ≡ valueFits l v
+range-value l v e = rw e
+
+pub other-value : (l : Level) (v : ℕ) → (l .mark ≡ 1 → ⊥) → (l .mark ≡ 4 → ⊥) → true ≡ valueFits l v
+other-value l v one four = rw (ne-eqb (l .mark) 1 one, ne-eqb (l .mark) 4 four)
 
 -- ---- run places
 

@@ -3,7 +3,7 @@ ghost use mathlib.Core.Path.{_≡_};
 ghost use Prim.Native.Nat.{_+_, _<_};
 ghost use lib.ListN.{length};
 ghost use Rattle.format.specs.Layout.{blockBytes, mostLevels};
-ghost use Rattle.format.specs.Rule.{levelAt, ruleAt, goodMark, goodLevel, goodStep, goodSteps, goodRule, goodRuleBytes, ruleFault};
+ghost use Rattle.format.specs.Rule.{levelAt, ruleAt, goodMark, goodValues, goodLevel, goodStep, goodSteps, goodRule, goodRuleBytes, ruleFault};
 ghost use Rattle.format.specs.Code.{faultOf};
 ghost use Rattle.policy_check.specs.Parts.{goodLevelOf, goodLevels, stepAt};
 use exclusion_check::exclusion::exclusions_fault;
@@ -27,6 +27,7 @@ use fields::layout::LEVEL_TYPE_AT;
 use fields::layout::LEVEL_VALUE_AT;
 use fields::layout::MOST_EXCLUSIONS;
 use fields::layout::MOST_LEVELS;
+use fields::layout::RANGE;
 use fields::layout::RULE_SPARE_AT;
 use fields::layout::RULE_SPARE_BYTES;
 use fields::layout::RULE_TAIL_AT;
@@ -42,16 +43,27 @@ fn good_mark(mark: u8, value: u32) -> bool
     ((mark == FIXED) & (value != 0)) | (((mark == EVERY) | (mark == EACH)) & (value == 0))
 }
 
+// A mark with the value and the last two bytes of its level: the low and the high value of a range; with any other mark the last two are zero.
+fn good_values(mark: u8, value: u32, tail: u32) -> bool
+    ensures { λ r. ⌜ r ≡ goodValues mark value tail ⌝ }
+{
+    if mark == RANGE {
+        return (value != 0) & (value <= tail);
+    }
+    good_mark(mark, value) & (tail == 0)
+}
+
 // A used level.
 fn good_level(b: &[u8], i: usize) -> bool
     requires { ⌜ (length (now b) ≡ blockBytes) × (i < mostLevels) ⌝ }
     ensures { λ r. ⌜ r ≡ goodLevel (levelAt (now (b .entry)) i) ⌝ }
 {
     let at = LEVEL_BYTES * i;
+    let value = u16_at(b, LEVEL_VALUE_AT + at);
+    let tail = u16_at(b, LEVEL_TAIL_AT + at);
     (u16_at(b, LEVEL_TYPE_AT + at) != 0)
-        & good_mark(b[LEVEL_MARK_AT + at], u16_at(b, LEVEL_VALUE_AT + at))
+        & good_values(b[LEVEL_MARK_AT + at], value, tail)
         & (b[LEVEL_PAD_AT + at] == 0)
-        & (u16_at(b, LEVEL_TAIL_AT + at) == 0)
 }
 
 // A level of a rule of some depth: used, or past the depth and all zero.

@@ -1,43 +1,19 @@
--- Marks for rules that there are: of all at once, and apart from the shapes of the rules.
+-- Marks for rules that there are, all at once: by the highest of them.
 -- Assumes nothing.
 use Prim.Native.Nat.{ℕ, zero, suc, _+_, _-_, _^_, _≤_, _<_}
 use native.Mathlib.Decide.{decLt}
 use native.Mathlib.Omega.{arith}
 use mathlib.Core.Path.{_≡_, refl, sym, ap, _∙_}
-use mathlib.Core.Bool.{Bool, true, false, not, _&&_, _||_}
-use mathlib.Core.List.{List}
+use mathlib.Core.Bool.{Bool, true, false, not, _||_}
 use borrow.Author.Tests.{lt-ltb, ltb-true, le-leb, lt-leb}
 use lib.Count.{leadingZeros, leading-of-zero, leading-top}
 use lib.Dec.{leb, ltb}
 use lib.Pow.{pow-mono, pow-pos}
-use Rattle.words.specs.Lists.{allBelow}
 use Rattle.words.specs.Bytes.{bit, bits}
 use Rattle.word_laws.proofs.Bits.{bits-below, bit-bits, bit-beyond}
 use Rattle.word_laws.proofs.BitLaws.{bits-of, same-bits}
-use Rattle.word_laws.proofs.Lowest.{allSet}
 use Rattle.word_laws.proofs.Tests.{allBelow-true, allBelow-at}
-use Rattle.table_check.specs.Shapes.{shapeFits, markFits, marksWithin, marksFit}
-
--- ---- two tests of each mark
-
-split : (n x : ℕ) (p q : ℕ → Bool) → allSet n x (λ i. p i && q i) ≡ allSet n x p && allSet n x q
-unfolding allBelow
-split zero x p q = refl
-split (suc n) x p q = rw (split n x p q) (pair (allSet n x p) (allSet n x q) (bit n x) (p n) (q n))
-  where
-    pair : (a b c d e : Bool) → (a && b) && (not c || (d && e)) ≡ (a && (not c || d)) && (b && (not c || e))
-    pair false b c d e = refl
-    pair true false true true e = refl
-    pair true false true false e = refl
-    pair true false false d e = refl
-    pair true true true d e = refl
-    pair true true false d e = refl
-
-pub fits-split : (shapes : List ℕ) (rules low high marks : ℕ) → marksFit shapes rules low high marks ≡ marksWithin rules marks && allSet 32 marks (shapeFits shapes low high)
-unfolding marksFit markFits marksWithin
-fits-split shapes rules low high marks = split 32 marks (λ i. ltb i rules) (shapeFits shapes low high)
-
--- ---- the highest mark
+use Rattle.table_check.specs.Shapes.{marksWithin}
 
 module _ (rules marks : ℕ) where
   -- marks that are all below the number of rules are for rules

@@ -1,5 +1,5 @@
 -- A rule's levels as numbers of 64 bits, two levels each, beside the levels of a context in the same form: how the code tests which contexts
--- a rule is about. A level of a context is one word of 32 bits, its type the low half.
+-- a rule is about that has no range. A level of a context is one word of 32 bits, its type the low half.
 -- Assumes nothing.
 use Prim.Native.Nat.{ℕ, _+_, _-_, _*_, _/_, _%_, _<_}
 use mathlib.Core.Path.{_≡_}
@@ -11,7 +11,7 @@ use lib.Dec.{eqb, ltb}
 use Rattle.words.specs.Lists.{allBelow}
 use Rattle.words.specs.Bytes.{bit}
 use Rattle.format.specs.Layout.{mostRules, mostLevels}
-use Rattle.format.specs.Rule.{Rule, goodRule}
+use Rattle.format.specs.Rule.{Rule, isRange, goodRule}
 use Rattle.format.specs.Policy.{Policy}
 
 -- ---- the shape of a rule
@@ -24,7 +24,8 @@ shapeNumbers = 4
 unfoldable pub levelWant : Rule → ℕ → ℕ
 levelWant r l = r .level l .type + 65536 * r .level l .value
 
--- the bits of the word that the rule asks: all at mark 1, those of the type at any other, and none past its depth
+-- the bits of the word that the rule asks: all at mark 1, those of the type at any other, and none past its depth. So no context has the shape of a rule
+-- with a range: there is a low value in what is wanted, and the mask leaves no value.
 unfoldable pub levelMask : Rule → ℕ → ℕ
 levelMask r l = cond (ltb l (r .depth)) (cond (eqb (r .level l .mark) 1) 4294967295 65535) 0
 
@@ -36,12 +37,16 @@ paired f l = f l + 4294967296 * f (l + 1)
 unfoldable pub shapeWord : Rule → ℕ → ℕ
 shapeWord r n = cond (ltb n 2) (paired (levelWant r) (2 * n)) (paired (levelMask r) (2 * n - 4))
 
+-- no level of the rule has a range
+unfoldable pub plain : Rule → Bool
+plain r = allBelow mostLevels (λ l. not (isRange (r .level l)))
+
 -- the numbers are the shapes of a policy's rules, four a rule, and the rules are as the check of a policy leaves them
 pub record Shapes (p : Policy) (rules : ℕ) (shapes : List ℕ) : Type 0 where
   pub count : rules ≡ p .rules
   pub word : (k : ℕ) → k < shapeNumbers * rules → getD shapes k 0 ≡ shapeWord (p .rule (k / shapeNumbers)) (k % shapeNumbers)
   pub good : (i : ℕ) → i < rules → goodRule (p .rule i) ≡ true
-  pub narrow : (i l : ℕ) → l < mostLevels → (p .rule i .level l .type < 65536) × (p .rule i .level l .value < 65536)
+  pub narrow : (i l : ℕ) → l < mostLevels → (p .rule i .level l .type < 65536) × (p .rule i .level l .value < 65536) × (p .rule i .level l .tail < 65536)
 
 -- ---- a context beside them
 
@@ -55,10 +60,6 @@ shapeFits shapes low high i =
 unfoldable pub marksWithin : ℕ → ℕ → Bool
 marksWithin rules marks = allBelow mostRules (λ i. not (bit i marks) || ltb i rules)
 
--- there is a rule of index i, and its shape fits
-unfoldable pub markFits : List ℕ → ℕ → ℕ → ℕ → ℕ → Bool
-markFits shapes rules low high i = ltb i rules && shapeFits shapes low high i
-
--- so for each mark that is set
-unfoldable pub marksFit : List ℕ → ℕ → ℕ → ℕ → ℕ → Bool
-marksFit shapes rules low high marks = allBelow mostRules (λ i. not (bit i marks) || markFits shapes rules low high i)
+-- a test passes for the rule of each mark that is set
+abbrev pub marksPass : (ℕ → Bool) → ℕ → Bool
+marksPass test marks = allBelow mostRules (λ i. not (bit i marks) || test i)

@@ -1,3 +1,4 @@
+pub mod bounds;
 pub mod record;
 pub mod shapes;
 pub mod tables;

@@ -1,6 +1,6 @@
 // A record of a table: a good request, with marks only for rules of the policy that its context fits.
 ghost use mathlib.Core.Path.{_≡_};
-ghost use mathlib.Core.Bool.{_&&_};
+ghost use mathlib.Core.Bool.{true, _&&_};
 ghost use Prim.Native.Nat.{_+_, _*_, _≤_};
 ghost use lib.ListN.{length};
 ghost use Rattle.words.specs.Bytes.{u32At, part};
@@ -9,7 +9,10 @@ ghost use Rattle.format.specs.Policy.{Policy};
 ghost use Rattle.format.specs.Request.{goodRequest};
 ghost use Rattle.format.specs.Table.{goodMarks, goodRecord};
 ghost use Rattle.format.specs.Records.{recordFrom};
-ghost use Rattle.table_check.specs.Shapes.{Shapes, marksWithin, marksFit};
+ghost use Rattle.table_check.specs.Shapes.{shapeFits, marksWithin, marksPass};
+ghost use Rattle.table_check.specs.Bounds.{levelNumber, mostBounds, boundsFit, pairsBounded, Tests};
+use crate::bounds::BOUNDS;
+use crate::bounds::bounds_fit;
 use crate::shapes::SHAPES;
 use crate::shapes::shape_fits;
 use fields::field::u32_at;
@@ -38,13 +41,10 @@ fn marks_within(marks: RuleSet, rules: u32) -> bool
     MOST_RULES - u32::leading_zeros(marks.0) <= rules
 }
 
-// The marks that are set, from the lowest on.
-fn marks_fit(shapes: &[u64; SHAPES], rules: u32, low: u64, high: u64, marks: RuleSet) -> bool
-    ensures { λ r. ⌜ r ≡ marksFit (now (shapes .entry)) rules low high (marks .0) ⌝ }
+// The marks that are set, from the lowest on, by the shapes of their rules.
+fn marks_shaped(shapes: &[u64; SHAPES], low: u64, high: u64, marks: RuleSet) -> bool
+    ensures { λ r. ⌜ r ≡ marksPass (shapeFits (now (shapes .entry)) low high) (marks .0) ⌝ }
 {
-    if !marks_within(marks, rules) {
-        return false;
-    }
     let mut rest = marks.0;
     while rest != 0 {
         if !shape_fits(shapes, low, high, u32::trailing_zeros(rest)) {
@@ -55,27 +55,85 @@ fn marks_fit(shapes: &[u64; SHAPES], rules: u32, low: u64, high: u64, marks: Rul
     true
 }
 
-// The request and the marks of the record at a byte, under the policy that the shapes are of. It may have no mark.
-pub fn good_request_and_marks(shapes: &[u64; SHAPES], rules: u32, s: &[u8], at: usize) -> bool
+// The word of a context's level as one number that has the type as its high half.
+fn level_number(word: u32) -> u32
+    ensures { λ r. ⌜ r ≡ levelNumber word ⌝ }
+{
+    word / 65536 + 65536 * (word % 65536)
+}
+
+// The marks that are set, from the lowest on, by the bounds of their rules.
+fn marks_bounded(bounds: &[u32], a: u32, b: u32, c: u32, d: u32, marks: RuleSet) -> bool
+    requires { ⌜ length (now bounds) ≡ mostBounds ⌝ }
+    ensures { λ r. ⌜ r ≡ marksPass (boundsFit (now (bounds .entry)) a b c d) (marks .0) ⌝ }
+{
+    let mut rest = marks.0;
+    while rest != 0 {
+        if !bounds_fit(bounds, a, b, c, d, u32::trailing_zeros(rest)) {
+            return false;
+        }
+        rest = rest & (rest - 1);
+    }
+    true
+}
+
+// The same, with the words of two levels in each number.
+fn pairs_bounded(bounds: &[u32], low: u64, high: u64, marks: RuleSet) -> bool
+    requires { ⌜ length (now bounds) ≡ mostBounds ⌝ }
+    ensures { λ r. ⌜ r ≡ marksPass (pairsBounded (now (bounds .entry)) low high) (marks .0) ⌝ }
+{
+    marks_bounded(
+        bounds,
+        level_number((low % 4294967296) as u32),
+        level_number((low / 4294967296) as u32),
+        level_number((high % 4294967296) as u32),
+        level_number((high / 4294967296) as u32),
+        marks,
+    )
+}
+
+// The marks of a record whose request is good: by the bounds of the rules if there are any, which is where the policy has a range, and else by their
+// shapes.
+fn good_marks(shapes: &[u64; SHAPES], bounds: &[u32], rules: u32, s: &[u8], at: usize) -> bool
     requires { ⌜ at + recordBytes ≤ length (now s) ⌝ }
-    ensures { λ r. ⌜ ((p : Policy) → Shapes p rules (now (shapes .entry)) → r ≡ goodRequest (part (now (s .entry)) at requestBytes) && goodMarks p (recordFrom (now (s .entry)) at)) ⌝ }
+    ensures { λ r. ⌜ ((p : Policy) → Tests p rules (now (shapes .entry)) (now (bounds .entry)) → goodRequest (part (now (s .entry)) at requestBytes) ≡ true → r ≡ goodMarks p (recordFrom (now (s .entry)) at)) ⌝ }
+{
+    let set = marks(s, at);
+    if !marks_within(set, rules) {
+        return false;
+    }
+    let low = two_levels(s, at + CONTEXT_AT);
+    let high = two_levels(s, at + THIRD_LEVEL_AT);
+    if bounds.len() == BOUNDS {
+        return pairs_bounded(bounds, low, high, set);
+    }
+    marks_shaped(shapes, low, high, set)
+}
+
+// The request and the marks of the record at a byte, under the policy whose rules the shapes and the bounds are of. It may have no mark.
+pub fn good_request_and_marks(
+    shapes: &[u64; SHAPES],
+    bounds: &[u32],
+    rules: u32,
+    s: &[u8],
+    at: usize,
+) -> bool
+    requires { ⌜ at + recordBytes ≤ length (now s) ⌝ }
+    ensures { λ r. ⌜ ((p : Policy) → Tests p rules (now (shapes .entry)) (now (bounds .entry)) → r ≡ goodRequest (part (now (s .entry)) at requestBytes) && goodMarks p (recordFrom (now (s .entry)) at)) ⌝ }
 {
     if !good_request(s, at) {
         return false;
     }
-    marks_fit(
-        shapes,
-        rules,
-        two_levels(s, at + CONTEXT_AT),
-        two_levels(s, at + THIRD_LEVEL_AT),
-        marks(s, at),
-    )
+    good_marks(shapes, bounds, rules, s, at)
 }
 
 // The record at a byte, under the same policy: it has a mark too.
-pub fn good_record(shapes: &[u64; SHAPES], rules: u32, s: &[u8], at: usize) -> bool
+pub fn good_record(shapes: &[u64; SHAPES], bounds: &[u32], rules: u32, s: &[u8], at: usize) -> bool
     requires { ⌜ at + recordBytes ≤ length (now s) ⌝ }
-    ensures { λ r. ⌜ ((p : Policy) → Shapes p rules (now (shapes .entry)) → r ≡ goodRecord p (recordFrom (now (s .entry)) at)) ⌝ }
+    ensures { λ r. ⌜ ((p : Policy) → Tests p rules (now (shapes .entry)) (now (bounds .entry)) → r ≡ goodRecord p (recordFrom (now (s .entry)) at)) ⌝ }
 {
-    good_request_and_marks(shapes, rules, s, at) & !marks(s, at).is_empty()
+    if marks(s, at).is_empty() {
+        return false;
+    }
+    good_request_and_marks(shapes, bounds, rules, s, at)
 }

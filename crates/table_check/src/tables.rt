@@ -6,12 +6,16 @@ ghost use Rattle.sums.specs.Code.{sumsOf};
 ghost use Rattle.words.specs.First.{first};
 ghost use Rattle.format.specs.Layout.{blockBytes, blockRecords, tableBlocks};
 ghost use Rattle.format.specs.Block.{blocks};
-ghost use Rattle.format.specs.Policy.{Policy};
+ghost use Rattle.format.specs.Policy.{Policy, policyOf};
 ghost use Rattle.format.specs.Table.{count, goodStamp, tableBlockFault, tableFault, recordsOf};
 ghost use Rattle.table_check.specs.CheckParts.{goodTableHeading, goodTableHead, recordsFault, tableFaultIn};
 ghost use Rattle.table_check.specs.Shapes.{Shapes};
+ghost use Rattle.table_check.specs.Bounds.{Tests};
 ghost use Rattle.format.specs.Code.{faultOf};
 ghost use Rattle.policy_check.specs.Code.{CheckedIs};
+use crate::bounds::BOUNDS;
+use crate::bounds::are_plain;
+use crate::bounds::bounds_of;
 use crate::record::good_record;
 use crate::shapes::SHAPES;
 use crate::shapes::shapes_of;
@@ -78,13 +82,19 @@ fn good_stamp(b: &[u8], stamp: Sum) -> bool
 }
 
 // The first bad record of block k.
-fn records_fault(shapes: &[u64; SHAPES], rules: u32, b: &[u8], k: u32) -> Fault
+fn records_fault(shapes: &[u64; SHAPES], bounds: &[u32], rules: u32, b: &[u8], k: u32) -> Fault
     requires { ⌜ (length (now b) ≡ blockBytes) × (count (now b) ≤ blockRecords) ⌝ }
-    ensures { λ r. ⌜ ((p : Policy) → Shapes p rules (now (shapes .entry)) → faultOf r ≡ recordsFault p k (now (b .entry))) ⌝ }
+    ensures { λ r. ⌜ ((p : Policy) → Tests p rules (now (shapes .entry)) (now (bounds .entry)) → faultOf r ≡ recordsFault p k (now (b .entry))) ⌝ }
 {
     let n = u16_at(b, COUNT_AT);
     for i in 0..n {
-        if !good_record(shapes, rules, b, RECORDS_AT + RECORD_BYTES * (i as usize)) {
+        if !good_record(
+            shapes,
+            bounds,
+            rules,
+            b,
+            RECORDS_AT + RECORD_BYTES * (i as usize),
+        ) {
             return Fault::At(Refusal {
                 number: 15,
                 first: k,
@@ -98,6 +108,7 @@ fn records_fault(shapes: &[u64; SHAPES], rules: u32, b: &[u8], k: u32) -> Fault
 // The first fault of block k of n.
 fn block_fault(
     shapes: &[u64; SHAPES],
+    bounds: &[u32],
     checked: Checked,
     b: &[u8],
     k: u32,
@@ -105,7 +116,7 @@ fn block_fault(
     short: bool,
 ) -> Fault
     requires { ⌜ length (now b) ≡ blockBytes ⌝ }
-    ensures { λ r. ⌜ ((p : Policy) → Shapes p (checked .rules) (now (shapes .entry)) → faultOf r ≡ tableFaultIn p (sumsOf (checked .stamp)) short k n (now (b .entry))) ⌝ }
+    ensures { λ r. ⌜ ((p : Policy) → Tests p (checked .rules) (now (shapes .entry)) (now (bounds .entry)) → faultOf r ≡ tableFaultIn p (sumsOf (checked .stamp)) short k n (now (b .entry))) ⌝ }
 {
     if !good_check(b) {
         return Fault::At(Refusal {
@@ -128,13 +139,13 @@ fn block_fault(
             second: 0,
         });
     }
-    records_fault(shapes, checked.rules, b, k)
+    records_fault(shapes, bounds, checked.rules, b, k)
 }
 
 // The blocks in turn.
-fn blocks_fault(shapes: &[u64; SHAPES], checked: Checked, table: &[u8]) -> Fault
+fn blocks_fault(shapes: &[u64; SHAPES], bounds: &[u32], checked: Checked, table: &[u8]) -> Fault
     requires { ⌜ length (now table) ≤ blockBytes * tableBlocks ⌝ }
-    ensures { λ r. ⌜ ((p : Policy) → Shapes p (checked .rules) (now (shapes .entry)) → faultOf r ≡ first (tableBlockFault p (sumsOf (checked .stamp)) (now (table .entry))) 0 (blocks (now (table .entry)))) ⌝ }
+    ensures { λ r. ⌜ ((p : Policy) → Tests p (checked .rules) (now (shapes .entry)) (now (bounds .entry)) → faultOf r ≡ first (tableBlockFault p (sumsOf (checked .stamp)) (now (table .entry))) 0 (blocks (now (table .entry)))) ⌝ }
 {
     let n = table.len() / BLOCK_BYTES;
     let mut short = false;
@@ -142,13 +153,24 @@ fn blocks_fault(shapes: &[u64; SHAPES], checked: Checked, table: &[u8]) -> Fault
         let at = BLOCK_BYTES * k;
         let to = at + BLOCK_BYTES;
         let b = &table[at..to];
-        let fault = block_fault(shapes, checked, b, k as u32, n as u32, short);
+        let fault = block_fault(shapes, bounds, checked, b, k as u32, n as u32, short);
         let Fault::Nothing = fault else {
             return fault;
         };
         short = short | ((u16_at(b, COUNT_AT) as usize) < Blocks::RECORDS);
     }
     Fault::Nothing
+}
+
+// The blocks in turn, under a policy that has a range: with the bounds of its rules.
+fn ranged_fault(policy: &[u8], shapes: &[u64; SHAPES], checked: Checked, table: &[u8]) -> Fault
+    requires { ⌜ CheckedIs (now policy) checked ⌝ }
+    requires { ⌜ length (now table) ≤ blockBytes * tableBlocks ⌝ }
+    ensures { λ r. ⌜ (Shapes (policyOf (now (policy .entry))) (checked .rules) (now (shapes .entry)) → faultOf r ≡ first (tableBlockFault (policyOf (now (policy .entry))) (sumsOf (checked .stamp)) (now (table .entry))) 0 (blocks (now (table .entry)))) ⌝ }
+{
+    let mut bounds = [0u32; BOUNDS];
+    bounds_of(policy, checked.rules, &mut bounds);
+    blocks_fault(shapes, &bounds, checked, table)
 }
 
 // The check of any bytes as a table under a policy that has passed its own.
@@ -165,7 +187,11 @@ pub fn table_fault(policy: &[u8], checked: Checked, table: &[u8]) -> Fault
     }
     let mut shapes = [0u64; SHAPES];
     shapes_of(policy, checked.rules, &mut shapes);
-    blocks_fault(&shapes, checked, table)
+    if !are_plain(policy, checked.rules) {
+        return ranged_fault(policy, &shapes, checked, table);
+    }
+    let none = [0u32; 0];
+    blocks_fault(&shapes, &none, checked, table)
 }
 
 // How many records a table has.

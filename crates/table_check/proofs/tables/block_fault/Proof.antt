@@ -14,7 +14,7 @@ use Rattle.table_check.proofs.tables.block_fault.Tie as tie
 
 -- the call, seen from behind each test that was passed
 abbrev call₁ : tie.Else1 → tie.Start
-call₁ c = c .before .before .before
+call₁ c = c .before .before .before .before
 
 abbrev call₂ : tie.Else2 → tie.Start
 call₂ c = call₁ (c .before .before)
@@ -37,7 +37,7 @@ good-check-requires c κs = search needs
 
 returns : tie.Need-returns
 returns c =
-    let a = c .before .before .before .args in
+    let a = c .before .before .before .before .args in
     λ p of. bad-check (a .short) (a .k) (a .n) (a .b .now) p (sumsOf (a .checked .stamp)) (sym (c .before .good-check .ensures) ∙ not-true (c .before .good-check .result) (c .if1 .taken))
 
 good-header-requires : tie.Need-good-header-requires

@@ -15,31 +15,31 @@ use Rattle.format.specs.Policy.{Policy}
 use Rattle.format.specs.Table.{tableBlockFault}
 use Rattle.format.specs.Code.{faultOf}
 use Rattle.table_check.specs.CheckParts.{shortBefore, tableFaultIn}
-use Rattle.table_check.specs.Shapes.{Shapes}
+use Rattle.table_check.specs.Bounds.{Tests}
 use Rattle.table_check.proofs.TableBlock.{fault-of-block, short-more}
 use Rattle.table_check.proofs.tables.blocks_fault.Statement.{statement}
 use Rattle.table_check.proofs.tables.blocks_fault.Tie as tie
 
 abbrev Inv-loop : tie.InvT-loop
-Inv-loop shapes checked table n short₀ k₀ short k = (k ≤ n) × ((short ≡ shortBefore table k) × ((p : Policy) → Shapes p (checked .rules) shapes → first (tableBlockFault p (sumsOf (checked .stamp)) table) k (n - k) ≡ first (tableBlockFault p (sumsOf (checked .stamp)) table) 0 n))
+Inv-loop shapes bounds checked table n short₀ k₀ short k = (k ≤ n) × ((short ≡ shortBefore table k) × ((p : Policy) → Tests p (checked .rules) shapes bounds → first (tableBlockFault p (sumsOf (checked .stamp)) table) k (n - k) ≡ first (tableBlockFault p (sumsOf (checked .stamp)) table) 0 n))
 
 abbrev μ-loop : tie.MeasureT-loop
-μ-loop shapes checked table n short₀ k₀ short k = n - k
+μ-loop shapes bounds checked table n short₀ k₀ short k = n - k
 
 -- where the loop stands after the call of `block_fault`, and what the function was called with
 abbrev turn : tie.After-block-fault Inv-loop μ-loop → tie.At-loop Inv-loop μ-loop
 turn c = c .before .before .before
 
 abbrev call : tie.At-loop Inv-loop μ-loop → tie.Start Inv-loop μ-loop
-call c = c .before .before
+call c = c .before .before .before
 
 -- what `block_fault` answers is the fault of block k of the table
 fault : (c : tie.After-block-fault Inv-loop μ-loop) →
     let a = call (turn c) .args in
-    (p : Policy) → Shapes p (a .checked .rules) (a .shapes .now) → faultOf (c .block-fault .result) ≡ tableBlockFault p (sumsOf (a .checked .stamp)) (a .table .now) (turn c .loop .k)
+    (p : Policy) → Tests p (a .checked .rules) (a .shapes .now) (a .bounds .now) → faultOf (c .block-fault .result) ≡ tableBlockFault p (sumsOf (a .checked .stamp)) (a .table .now) (turn c .loop .k)
 fault c p of =
     let at = c .before .before .before in
-    let a = at .before .before .args in
+    let a = at .before .before .before .args in
     let l = at .loop in
     let e : faultOf (c .block-fault .result) ≡ tableFaultIn p (sumsOf (a .checked .stamp)) (shortBefore (a .table .now) (l .k)) (l .k) (blocks (a .table .now)) (block (a .table .now) (l .k)) =
     rw (part-to (a .table .now) (512 * l .k) 512, l .inv .1 .0) at (c .block-fault .ensures p of) in
@@ -47,7 +47,7 @@ fault c p of =
 
 loop-holds : tie.Need-loop-holds Inv-loop μ-loop
 unfolding anyBelow
-loop-holds c = let a = c .before .args in (omega arith, (refl, λ p of. first-start (tableBlockFault p (sumsOf (a .checked .stamp)) (a .table .now)) (blocks (a .table .now))))
+loop-holds c = let a = c .before .before .args in (omega arith, (refl, λ p of. first-start (tableBlockFault p (sumsOf (a .checked .stamp)) (a .table .now)) (blocks (a .table .now))))
 
 mul-at : tie.Need-mul-at Inv-loop μ-loop
 mul-at c = search needs

@@ -11,28 +11,28 @@ use Rattle.format.specs.Answer.{refusal}
 use Rattle.format.specs.Table.{count, recordAt, goodRecord}
 use Rattle.format.specs.Policy.{Policy}
 use Rattle.table_check.specs.CheckParts.{recordFaultAt, recordsFault}
-use Rattle.table_check.specs.Shapes.{Shapes}
+use Rattle.table_check.specs.Bounds.{Tests}
 use Rattle.table_check.proofs.Here.{record-from}
 use Rattle.table_check.proofs.tables.records_fault.Statement.{statement}
 use Rattle.table_check.proofs.tables.records_fault.Tie as tie
 
 abbrev Inv-loop : tie.InvT-loop
-Inv-loop shapes rules b k n i₀ i = (i ≤ n) × ((n ≡ count b) × ((p : Policy) → Shapes p rules shapes → first (recordFaultAt p k b) i (n - i) ≡ recordsFault p k b))
+Inv-loop shapes bounds rules b k n i₀ i = (i ≤ n) × ((n ≡ count b) × ((p : Policy) → Tests p rules shapes bounds → first (recordFaultAt p k b) i (n - i) ≡ recordsFault p k b))
 
 abbrev μ-loop : tie.MeasureT-loop
-μ-loop shapes rules b k n i₀ i = n - i
+μ-loop shapes bounds rules b k n i₀ i = n - i
 
 -- where the loop stands after the call of `good_record`, and what the function was called with
 abbrev turn : tie.After-good-record Inv-loop μ-loop → tie.At-loop Inv-loop μ-loop
 turn c = c .before .before
 
 abbrev call : tie.At-loop Inv-loop μ-loop → tie.Start Inv-loop μ-loop
-call c = c .before .before .before
+call c = c .before .before .before .before
 
 -- what `good_record` says of record i
 said : (c : tie.After-good-record Inv-loop μ-loop) →
     let a = call (turn c) .args in
-    (p : Policy) → Shapes p (a .rules) (a .shapes .now) → goodRecord p (recordAt (a .b .now) (turn c .loop .i)) ≡ c .good-record .result
+    (p : Policy) → Tests p (a .rules) (a .shapes .now) (a .bounds .now) → goodRecord p (recordAt (a .b .now) (turn c .loop .i)) ≡ c .good-record .result
 said c p of = rw (record-from (call (turn c) .args .b .now) (turn c .loop .i)) (sym (c .good-record .ensures p of))
 
 u16-at-requires : tie.Need-u16-at-requires Inv-loop μ-loop
@@ -40,7 +40,7 @@ u16-at-requires c κs = search needs
 
 loop-holds : tie.Need-loop-holds Inv-loop μ-loop
 loop-holds c =
-    let a = c .before .before .args in
+    let a = c .before .before .before .args in
     (omega arith, (c .u16-at .ensures .0, λ p of. rw (c .u16-at .ensures .0) (first-start (recordFaultAt p (a .k) (a .b .now)) (count (a .b .now)))))
 
 cast-good-record : tie.Need-cast-good-record Inv-loop μ-loop
@@ -55,8 +55,8 @@ add-good-record c = search needs
 good-record-requires : tie.Need-good-record-requires Inv-loop μ-loop
 good-record-requires c κs = search needs
 
-add-t12 : tie.Need-add-t12 Inv-loop μ-loop
-add-t12 c = search needs
+add-t13 : tie.Need-add-t13 Inv-loop μ-loop
+add-t13 c = search needs
 
 returns : tie.Need-returns Inv-loop μ-loop
 returns c =
@@ -105,7 +105,7 @@ records-fault-spec =
     mul-good-record
     add-good-record
     good-record-requires
-    add-t12
+    add-t13
     returns
     add-i
     loop-less
