@@ -58,9 +58,11 @@
  *     8        depth, 0 to 4: how many context levels the rule is about
  *     9        exclusions, 1 to 8
  *     10, 11   1 if a first, a last step is set, else 0
- *     16-47    four levels of 8: type (2, from 1), mark (1), zero (1), value (2), zero (2)
+ *     16-47    four levels of 8: type (2, from 1), mark (1), zero (1), value (2), high (2)
  *              mark 1, fixed: this value only (from 1); 2, every: all values together; 3, each: each
- *              value by itself (value 0 for 2 and 3); levels past the depth are zero
+ *              value by itself; 4, range: the values from value to high, both included, together
+ *              (1 <= value <= high); value is 0 for marks 2 and 3, high for marks 1, 2 and 3;
+ *              levels past the depth are zero
  *     48-51    first step: operation (2), target (2), from 1; zero if not set
  *     52-55    last step, likewise; not equal to the first
  *     56-343   eight exclusions of 36: kind (1), m (1), n (1), zero (1), eight members of 4;
@@ -95,7 +97,7 @@
 #include <stdint.h>
 
 /* The version of this interface. */
-#define SOD_VERSION "0.2.0"
+#define SOD_VERSION "0.3.0"
 
 /* Whoever drops a reply is warned: a refusal that nobody reads is a step taken all the same. */
 #if defined(__cplusplus) && __cplusplus >= 201703L

@@ -6,7 +6,7 @@ breaks a limit is written all the same: the engine says so, by its number.
 import struct
 from collections import namedtuple
 
-FIXED, EVERY, EACH = 1, 2, 3
+FIXED, EVERY, EACH, RANGE = 1, 2, 3, 4
 Record = namedtuple("Record", "user roles privilege context rules")
 
 
@@ -24,8 +24,9 @@ def sealed(block):
     return block + sums(block)
 
 
-def level(kind, mark, value=0):
-    return struct.pack("<HBxH2x", kind, mark, value)
+def level(kind, mark, value=0, high=0):
+    """A rule's level: FIXED has a value; RANGE is from value to high, both included."""
+    return struct.pack("<HBxHH", kind, mark, value, high)
 
 
 def roles(m, *members):

@@ -16,8 +16,9 @@
 //! engine is one, too, but for previews and blocks touched: then both are called in the same way, and
 //! tools/places can put them where it likes.
 //!
-//! Each decision is then measured as a preview, with the decision itself in the same rounds; and what a
-//! last step costs for each block that it touches ([`touched`]).
+//! Each decision is then measured as a preview, with the decision itself in the same rounds; a policy of
+//! ranges, with the same one of fixed values in the same rounds; and what a last step costs for each block
+//! that it touches ([`touched`]).
 
 #[path = "../tests/support/chance.rs"]
 #[allow(dead_code)]
@@ -57,6 +58,12 @@ fn main() {
     println!("\nPreviews, beside the engine's decision with the same answer.\n");
     let previews: Vec<Workload> = workloads.iter().filter_map(Workload::preview).collect();
     table(&previews, &Some(Beside::Decision));
+    if before.is_none() && word.as_ref().is_none_or(|word| "ranges".contains(word)) {
+        println!(
+            "\nRanges at all four levels of 32 rules, beside fixed values on the same records.\n"
+        );
+        ranges();
+    }
     if word.as_ref().is_none_or(|word| "touched".contains(word)) {
         println!("\nBlocks touched: last steps on a full table of 128, and what a written block costs.\n");
         touched.table(&before);
@@ -67,34 +74,60 @@ fn main() {
     }
 }
 
+/// What the worst tables have in common: the records count alike, each in another context.
+const ALIKE: Kind = Kind {
+    name: "worst",
+    roles: |_| 0x7F,
+    operation: |i| 1 + i as u16 % DONE,
+    marks: |_| u32::MAX,
+    mark: |_| Mark::Every,
+    value: |_, chance| chance.from(1, 65535) as u16,
+};
+
 fn worst_workloads() -> Vec<Workload> {
-    let alike = Kind {
-        name: "worst",
-        roles: |_| 0x7F,
-        operation: |i| 1 + i as u16 % DONE,
-        marks: |_| u32::MAX,
-    };
     // No two records have the same active roles, privilege or marks.
     let roles = Kind {
         name: "roles",
         roles: |i| 0x7F | (i as u32) << 16,
-        ..alike
+        ..ALIKE
     };
     let privileges = Kind {
         name: "privileges",
         operation: other,
-        ..alike
+        ..ALIKE
     };
     // Here rule 1 has no mark at all, so that no role was ever active under all rules.
     let marks = Kind {
         name: "marks",
         marks: |i| 0xFFFF_FFFE ^ (i as u32) << 8,
-        ..alike
+        ..ALIKE
     };
-    let kinds = [alike, roles, privileges, marks];
+    let kinds = [ALIKE, roles, privileges, marks];
     (kinds.iter())
         .flat_map(|kind| Worst::new(kind).workloads())
         .collect()
+}
+
+/// The worst table in a single context, which four fixed values ask for, and four ranges take in.
+fn ranges() {
+    let fixed = Kind {
+        mark: Mark::Fixed,
+        value: |kind, _| kind,
+        ..ALIKE
+    };
+    let ranged = Kind {
+        name: "ranges",
+        mark: |kind| Mark::Range(kind, 40_000 + kind),
+        ..fixed
+    };
+    let [fixed, ranged] = [fixed, ranged].map(|kind| Worst::new(&kind).workloads());
+    let beside: Vec<_> = (fixed.into_iter())
+        .map(|one| Some(Beside::Fixed(Box::new(one))))
+        .collect();
+    heading(&beside[0]);
+    for (workload, fixed) in ranged.iter().zip(&beside) {
+        row(workload, fixed);
+    }
 }
 
 /// The operation of record i, where all are different.
@@ -122,7 +155,7 @@ fn heading(beside: &Option<Beside>) {
     );
     if let Some(beside) = beside {
         let name = beside.name();
-        print!(" {name:>8} | engine/{name} |");
+        print!(" {name:>8} | {:>13} |", format!("engine/{name}"));
     }
     print!(
         "\n|-{:-<NAME$}-|{:->10}|{:->10}|{:->10}|{:->13}|{:->13}|{:->11}|",
@@ -174,6 +207,8 @@ enum Beside {
     },
     /// The engine's decision of the same request.
     Decision,
+    /// The engine's call where values are fixed.
+    Fixed(Box<Workload>),
 }
 
 impl Beside {
@@ -181,6 +216,7 @@ impl Beside {
         match self {
             Beside::Earlier { .. } => "before",
             Beside::Decision => "decide",
+            Beside::Fixed(_) => "fixed",
         }
     }
 }
@@ -212,6 +248,9 @@ impl Workload {
     /// Microseconds for engine, Rust, sums, and what stands beside them if there is something.
     fn measure(&self, beside: &Option<Beside>) -> [f64; 4] {
         self.agree();
+        if let Some(Beside::Fixed(fixed)) = beside {
+            fixed.agree();
+        }
         let mut tables = self.copies();
         let mut times = [const { vec![] }; 4];
         for _ in 0..ROUNDS {
@@ -229,6 +268,9 @@ impl Workload {
                     self.time(&mut tables, |w, table| w.by_earlier(before, table))
                 }
                 Some(Beside::Decision) => self.time(&mut tables, |w, table| w.decided(table)),
+                Some(Beside::Fixed(fixed)) => {
+                    fixed.time(&mut tables, |w, table| w.by_engine(table))
+                }
             });
         }
         times.map(median)
@@ -609,17 +651,30 @@ struct Worst {
     name: &'static str,
     policy: Vec<u8>,
     table: Vec<u8>,
+    /// Where the request is made.
+    context: Context,
 }
 
 /// The user does operations 1 to 56, seven of the eight members of each exclusion of privileges.
 const DONE: u16 = 56;
 
-/// What the records have, by the index of each.
+/// What the records have, by the index of each; and by the type of a level, what the rules ask there and
+/// which value a context has.
 struct Kind {
     name: &'static str,
     roles: fn(usize) -> u32,
     operation: fn(usize) -> u16,
     marks: fn(usize) -> u32,
+    mark: fn(u16) -> Mark,
+    value: fn(u16, &mut Chance) -> u16,
+}
+
+impl Kind {
+    fn context(&self, chance: &mut Chance) -> Context {
+        (1..=4)
+            .map(|kind| (kind, (self.value)(kind, chance)))
+            .collect()
+    }
 }
 
 impl Worst {
@@ -638,7 +693,7 @@ impl Worst {
             }
         };
         let rule = Rule {
-            levels: (1..=4).map(|kind| level(kind, Mark::Every)).collect(),
+            levels: (1..=4).map(|at| level(at, (kind.mark)(at))).collect(),
             first: Some(privilege(1)),
             last: Some(privilege(2_000)),
             exclusions: (0..8).map(exclusion).collect(),
@@ -665,7 +720,7 @@ impl Worst {
                     user: 7,
                     roles: (kind.roles)(i),
                     privilege: privilege((kind.operation)(i)),
-                    context: Worst::context(&mut chance),
+                    context: kind.context(&mut chance),
                 },
                 marks: (kind.marks)(i),
             })
@@ -675,23 +730,17 @@ impl Worst {
             name: kind.name,
             policy,
             table,
+            context: kind.context(&mut Chance::new(8)),
         }
     }
 
-    fn context(chance: &mut Chance) -> Context {
-        (1..=4)
-            .map(|kind| (kind, chance.from(1, 65535) as u16))
-            .collect()
-    }
-
     fn workloads(&self) -> Vec<Workload> {
-        let context = Worst::context(&mut Chance::new(8));
         let workload = |name: &str, call, operation, expected| Workload {
             name: format!("{}: {name}", self.name),
             call,
             policy: self.policy.clone(),
             table: self.table.clone(),
-            request: request_of(7, 1, privilege(operation), &context),
+            request: request_of(7, 1, privilege(operation), &self.context),
             expected,
             written: None,
         };

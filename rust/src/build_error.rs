@@ -1,7 +1,7 @@
 //! What cannot be written down as an image.
 
 use crate::text::pad;
-use crate::Role;
+use crate::{ContextValue, Role};
 use std::fmt;
 
 /// What cannot be written down as an image.
@@ -16,6 +16,13 @@ use std::fmt;
 #[non_exhaustive]
 #[derive(Clone, Copy, PartialEq, Eq, Debug)]
 pub enum BuildError {
+    /// A range of context values needs low <= high. Otherwise no value is in it.
+    EmptyRange {
+        /// Where it was to begin.
+        low: ContextValue,
+        /// Where it was to end.
+        high: ContextValue,
+    },
     /// An exclusion needs 2 <= m <= n <= 8.
     ForbiddenNumber {
         /// How many are forbidden.
@@ -92,6 +99,9 @@ impl fmt::Display for Words<'_> {
     fn fmt(&self, f: &mut fmt::Formatter) -> fmt::Result {
         use BuildError::*;
         match self.0 {
+            EmptyRange { low, high } => {
+                write!(f, "{low} to {high} is an empty range: low <= high is asked")
+            }
             ForbiddenNumber { m, n } => {
                 write!(f, "{m} of {n} is no exclusion: 2 <= m <= n <= 8 is asked")
             }

@@ -4,6 +4,8 @@
 //! cannot agree on a mistake.
 
 mod independent;
+#[path = "edges/ranges.rs"]
+mod ranges;
 mod support;
 
 use hastovimen::raw;
@@ -207,7 +209,8 @@ fn rules_outside_exclusions() {
         (15, &[1]),            // not named
         (16, &[0]),            // type 0
         (18, &[0]),            // mark 0
-        (18, &[4]),            // mark 4
+        (18, &[4]),            // a range from 9 to 0
+        (18, &[5]),            // mark 5
         (18, &[2]),            // every, with a value
         (19, &[1]),            // zero
         (20, &[0]),            // fixed, value 0

@@ -28,7 +28,7 @@ fn no_list_speaks_against_a_warning() {
     let mut chance = Chance::new(31);
     let mut seen: BTreeMap<&str, usize> = BTreeMap::new();
     for _ in 0..3_000 {
-        let world = World::small(&mut chance);
+        let world = World::either(&mut chance);
         let policy = Policy::check(&world.image).unwrap();
         let warnings = policy.lint();
         let mut table = policy.new_table(4).unwrap();
@@ -167,12 +167,23 @@ fn roles_without_a_permission() {
     assert_eq!(refused.unwrap_err().number(), 32);
 }
 
+fn north(kind: ContextType) -> Level {
+    Level::range(kind, ContextValue::of(100)..=ContextValue::of(199)).unwrap()
+}
+
+/// The order goes by the types alone, whatever is asked of the values.
 #[test]
 fn order_of_levels() {
+    for level in [Level::each, Level::every, north] {
+        order_of(level);
+    }
+}
+
+fn order_of(level: fn(ContextType) -> Level) {
     let [depot, job, visit] = [1, 2, 3].map(ContextType::of);
     let orders = |rules: &[&[ContextType]]| -> Vec<(u32, u32)> {
         let policy = rules.iter().fold(PolicyBuilder::new(), |policy, types| {
-            let levels: Vec<_> = types.iter().map(|&kind| Level::each(kind)).collect();
+            let levels: Vec<_> = types.iter().copied().map(level).collect();
             let rule = Rule::over(Levels::new(&levels).unwrap());
             policy.rule(rule.exclude(roles(1, 2)))
         });

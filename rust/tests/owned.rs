@@ -23,7 +23,7 @@ fn kept_anywhere<T: Send + Sync + 'static>(_: &T) {}
 fn lent_and_owned_alike() {
     let mut chance = Chance::new(21);
     for _ in 0..100 {
-        let world = World::small(&mut chance);
+        let world = World::either(&mut chance);
         let blocks = chance.from(1, 3);
         let mut buffer = vec![0; blocks * BLOCK];
         let lent = Policy::check(&world.image).unwrap();
@@ -146,7 +146,7 @@ fn grown_tables() {
     let mut chance = Chance::new(22);
     let mut full = 0;
     for _ in 0..300 {
-        let world = World::small(&mut chance);
+        let world = World::either(&mut chance);
         let policy = Policy::check(&world.image).unwrap();
         let blocks = chance.from(1, 3);
         let count = images::places(blocks) - chance.below(3);

@@ -24,8 +24,9 @@ use independent::Reply;
 use support::busy::{Busy, Pool, MET};
 use support::chance::Chance;
 use support::compare::*;
-use support::damage::{damage, restamp, telling};
+use support::damage::{damage, move_record, restamp, telling, MOVED};
 use support::lists::{shortest, Call, List, Start};
+use support::ranged;
 use support::repeated::Repeated;
 use support::world::{request_bytes, World};
 use support::written;
@@ -104,8 +105,27 @@ fn noise(chance: &mut Chance, length: usize) -> Vec<u8> {
     (0..length).map(|_| chance.next() as u8).collect()
 }
 
-fn small_list(comparing: &mut Comparing, chance: &mut Chance) {
+/// Every second one has ranges.
+fn small_world(chance: &mut Chance) -> World {
     let world = World::small(chance);
+    with_ranges_or_not(chance, world)
+}
+
+fn large_world(chance: &mut Chance) -> World {
+    let world = World::large(chance);
+    with_ranges_or_not(chance, world)
+}
+
+fn with_ranges_or_not(chance: &mut Chance, world: World) -> World {
+    if chance.percent(50) {
+        world.with_ranges(chance)
+    } else {
+        world
+    }
+}
+
+fn small_list(comparing: &mut Comparing, chance: &mut Chance) {
+    let world = small_world(chance);
     let accepted = Reply::accept(world.policy.rules.len());
     assert_eq!(comparing.check_policy(&world.image), accepted);
     let (blocks, length) = (chance.from(1, 3), chance.from(0, 200));
@@ -118,7 +138,7 @@ fn large_list(comparing: &mut Comparing, chance: &mut Chance) {
 }
 
 fn middling_list(comparing: &mut Comparing, chance: &mut Chance) {
-    let world = World::large(chance);
+    let world = large_world(chance);
     let blocks = chance.from(4, 24);
     list(chance, &world, blocks, 24 * blocks, 1, 10).run(comparing);
 }
@@ -135,6 +155,7 @@ fn must_have_seen_in_lists(seen: &Seen, times: usize) {
         seen.must_grant(call, &KINDS, times);
     }
     seen.must_note(&[MAKES_ROOM], times / 25);
+    seen.must_note(&ranged::MET, 2 * times / 5);
 }
 
 /// With 32 rules a table is seldom empty again.
@@ -144,6 +165,7 @@ fn must_have_seen_in_large_lists(seen: &Seen, times: usize) {
         seen.must_refuse(call, &JUDGE_NUMBERS, times);
         seen.must_grant(call, &KINDS[3..], times);
     }
+    seen.must_note(&ranged::MET, times);
 }
 
 #[test]
@@ -194,7 +216,7 @@ fn list_on(chance: &mut Chance, policy: &[u8], table: Vec<u8>, requests: Vec<Vec
 }
 
 fn strange_table(comparing: &mut Comparing, chance: &mut Chance) {
-    let world = World::small(chance);
+    let world = small_world(chance);
     let blocks = chance.from(1, 4);
     let count = chance.from(0, places(blocks));
     let records = world.records(chance, count);
@@ -211,7 +233,7 @@ fn strange_table(comparing: &mut Comparing, chance: &mut Chance) {
 }
 
 fn strange_large_table(comparing: &mut Comparing, chance: &mut Chance) {
-    let world = World::large(chance);
+    let world = large_world(chance);
     let blocks = chance.from(100, 128);
     let count = places(blocks) - chance.below(20);
     let records = world.records(chance, count);
@@ -276,6 +298,7 @@ fn must_have_seen_in_busy_tables(seen: &Seen, times: usize) {
     }
     seen.must_note(&Pool::ALL.map(Pool::name), 40 * times);
     seen.must_note(&MET, 2 * times);
+    seen.must_note(&ranged::COUNTED, times);
 }
 
 #[test]
@@ -309,6 +332,7 @@ fn repeated_table(comparing: &mut Comparing, chance: &mut Chance) {
 
 fn must_have_seen_in_repeated_tables(seen: &Seen, times: usize) {
     seen.must_note(&written::MET, times);
+    seen.must_note(&ranged::ENDED, times);
     seen.must_refuse("decide", &[34], times);
 }
 
@@ -329,12 +353,13 @@ fn repeated_requests() {
 // ---------------------------------------------------------------------------------------------
 // Damaged images
 
-/// Puts all five calls to what may be damaged.
-fn all_calls(comparing: &mut Comparing, policy: &[u8], table: &[u8], request: &[u8]) {
+/// Puts all five calls to what may be damaged. What the check of the table says.
+fn all_calls(comparing: &mut Comparing, policy: &[u8], table: &[u8], request: &[u8]) -> Reply {
     comparing.check_policy(policy);
-    comparing.check_table(policy, table);
+    let checked = comparing.check_table(policy, table);
     comparing.fresh_table(policy, &mut table.to_vec());
     preview_and_decide(comparing, policy, table, request);
+    checked
 }
 
 /// The answer of a preview and of the decision after it, on a copy of the table.
@@ -352,7 +377,7 @@ fn preview_and_decide(
 
 /// A world, a table in use and a request, one or more of them damaged in several ways.
 fn damaged_images(comparing: &mut Comparing, chance: &mut Chance) {
-    let world = World::small(chance);
+    let world = small_world(chance);
     let blocks = chance.from(1, 3);
     let count = chance.from(0, places(blocks));
     let records = world.records(chance, count);
@@ -372,12 +397,21 @@ fn damaged_images(comparing: &mut Comparing, chance: &mut Chance) {
                 restamp(&mut table, sums(&policy));
             }
         }
-        if bad_table {
+        let mut moved = None;
+        if bad_table && !bad_policy && chance.percent(50) {
+            let mut records = records.clone();
+            moved = move_record(chance, &world.policy, &mut records);
+            table = write_table(world.stamp(), &records, blocks);
+        }
+        if bad_table && moved.is_none() {
             damage(chance, &mut table);
         }
         let request = world.request(chance);
         let request = request_bytes(chance, &request, if bad_request { 80 } else { 5 });
-        all_calls(comparing, &policy, &table, &request);
+        let checked = all_calls(comparing, &policy, &table, &request);
+        if let Some((what, _)) = moved.filter(|&(_, number)| number == checked.number) {
+            comparing.seen.note(what);
+        }
     }
 }
 
@@ -393,6 +427,7 @@ fn must_have_seen_in_damaged_images(seen: &Seen, times: usize) {
     for call in ["decide", "preview"] {
         seen.must_refuse(call, &REQUEST_NUMBERS, times);
     }
+    seen.must_note(&MOVED, times);
 }
 
 #[test]
@@ -404,9 +439,13 @@ fn damaged() {
     println!("{}", comparing.seen);
 }
 
-/// Every byte of a policy, of a table and of a request, resealed and not.
+// What is taken down of a range level of which a byte was altered.
+const RANGE_REFUSED: &str = "a damaged range is refused by 4";
+const RANGE_PASSES: &str = "a damaged range is another good level";
+
+/// Every byte of a policy with ranges, of a table and of a request, resealed and not.
 fn every_byte(comparing: &mut Comparing, chance: &mut Chance) {
-    let world = World::small(chance);
+    let world = World::ranged(chance);
     let records = world.records(chance, 20);
     let table = write_table(world.stamp(), &records, 2);
     let request = write_request(&world.request(chance));
@@ -422,6 +461,7 @@ fn every_byte(comparing: &mut Comparing, chance: &mut Chance) {
             all_calls(comparing, &policy, &table, &request);
         }
     }
+    every_byte_of_a_range(comparing, chance, &world, &table, &request);
     for at in 0..table.len() {
         for sealed in [false, true] {
             let mut table = table.clone();
@@ -441,6 +481,35 @@ fn every_byte(comparing: &mut Comparing, chance: &mut Chance) {
     }
 }
 
+/// Every other value in every byte of one of the policy's ranges.
+fn every_byte_of_a_range(
+    comparing: &mut Comparing,
+    chance: &mut Chance,
+    world: &World,
+    table: &[u8],
+    request: &[u8],
+) {
+    let levels = (world.policy.rules.iter().enumerate())
+        .flat_map(|(r, rule)| (0..rule.levels.len()).map(move |i| BLOCK * r + 16 + 8 * i));
+    let ranges: Vec<usize> = levels.filter(|&at| world.image[at + 2] == 4).collect();
+    let level = chance.pick(&ranges);
+    for at in level..level + 8 {
+        for value in (0..=255).filter(|&value| value != world.image[at]) {
+            let mut policy = world.image.clone();
+            policy[at] = value;
+            reseal(&mut policy);
+            let mut table = table.to_vec();
+            restamp(&mut table, sums(&policy));
+            match all_calls(comparing, &policy, &table, request).number {
+                4 => comparing.seen.note(RANGE_REFUSED),
+                // Records that were good may have come to lie outside.
+                0 | 15 => comparing.seen.note(RANGE_PASSES),
+                _ => {}
+            }
+        }
+    }
+}
+
 #[test]
 fn every_byte_damaged() {
     let mut comparing = Comparing::new();
@@ -449,6 +518,7 @@ fn every_byte_damaged() {
     for call in ["decide", "preview"] {
         seen.must_refuse(call, &[2, 3, 4, 5, 6, 12, 13, 14, 15, 22], full(30));
     }
+    seen.must_note(&[RANGE_REFUSED, RANGE_PASSES], full(800));
     println!("{seen}");
 }
 
@@ -457,7 +527,7 @@ fn every_byte_damaged() {
 fn lengths() {
     let mut comparing = Comparing::new();
     let mut chance = Chance::new(SEED);
-    let world = World::small(&mut chance);
+    let world = World::ranged(&mut chance);
     let request = write_request(&world.request(&mut chance));
     let table = write_table(world.stamp(), &[], 1);
     let around = |blocks: usize| [512 * blocks - 1, 512 * blocks, 512 * blocks + 1];

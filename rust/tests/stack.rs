@@ -133,8 +133,9 @@ fn privilege(operation: u16) -> Privilege {
     }
 }
 
-/// 32 rules of 8 exclusions; what is permitted are operations 1 to 3, of which 2 ends every run.
-fn largest_policy() -> Vec<u8> {
+/// 32 rules over these levels, of 8 exclusions; what is permitted are operations 1 to 3, of which 2
+/// ends every run.
+fn largest_policy(levels: Vec<Level>) -> Vec<u8> {
     let exclusion = |x: u16| Exclusion {
         m: 2,
         members: if x.is_multiple_of(2) {
@@ -144,7 +145,7 @@ fn largest_policy() -> Vec<u8> {
         },
     };
     let rule = Rule {
-        levels: vec![],
+        levels,
         first: None,
         last: Some(privilege(2)),
         exclusions: (0..8).map(exclusion).collect(),
@@ -164,25 +165,37 @@ fn request(operation: u16) -> Request {
         user: 7,
         roles: 1,
         privilege: privilege(operation),
-        context: vec![],
+        context: (1..=4).map(|kind| (kind, 9)).collect(),
     }
 }
 
+/// Four levels of this mark.
+fn four(mark: Mark) -> Vec<Level> {
+    (1..=4).map(|kind| Level { kind, mark }).collect()
+}
+
 /// The largest policy, and tables up to 128 blocks, up to full, all of it one user's and marked for
-/// all rules: a decision then takes the most room that it can.
+/// all rules: a decision then takes the most room that it can. Rules have no levels, or four ranges, or
+/// other levels.
 #[test]
 fn every_call_on_a_small_stack() {
-    let policy = largest_policy();
+    let marks = [Mark::Range(9, 65535), Mark::Fixed(9), Mark::Each];
+    for levels in [vec![]].into_iter().chain(marks.map(four)) {
+        every_call(&largest_policy(levels));
+    }
+}
+
+fn every_call(policy: &[u8]) {
     let record = Record {
         request: request(1),
         marks: u32::MAX,
     };
     for blocks in [1, 5, 128] {
         for held in [0, places(blocks) - 1, places(blocks)] {
-            let table = write_table(sums(&policy), &vec![record.clone(); held], blocks);
+            let table = write_table(sums(policy), &vec![record.clone(); held], blocks);
             let gets = |call, operation, expected: Reply| {
                 let request = write_request(&request(operation));
-                assert_eq!(on_small_stack(call, &policy, &table, &request), expected);
+                assert_eq!(on_small_stack(call, policy, &table, &request), expected);
             };
             gets(Call::CheckPolicy, 1, Reply::accept(32));
             gets(Call::CheckTable, 1, Reply::accept(held));

@@ -83,7 +83,7 @@ fn parts_of_policies_and_tables() {
     let mut chance = Chance::new(11);
     let mut altered = Altered::default();
     for _ in 0..200 {
-        let world = World::small(&mut chance);
+        let world = World::either(&mut chance);
         for one in &world.policy.rules {
             let rule = rule(one);
             altered.try_out(&mut chance, &rule);
@@ -112,12 +112,65 @@ fn parts_of_policies_and_tables() {
     assert!(altered.not_read > 1_000, "{} not read", altered.not_read);
 }
 
+/// A level by chance, in most cases a range, many of them with a low or a high at the edge.
+fn level(chance: &mut Chance) -> Level {
+    let kind = ContextType::of(chance.pick(&[1, 2, 65535]));
+    let edges = [1, 9, 10, 99, 100, 199, 65534, 65535];
+    let mut ends = [(); 2].map(|()| match chance.below(2) {
+        0 => chance.pick(&edges),
+        _ => chance.from(1, 65535) as u16,
+    });
+    ends.sort();
+    let [low, high] = ends.map(ContextValue::of);
+    match chance.below(8) {
+        0 => Level::every(kind),
+        1 => Level::each(kind),
+        2 => Level::fixed(kind, low),
+        3 => Level::range(kind, low..=low).unwrap(),
+        _ => Level::range(kind, low..=high).unwrap(),
+    }
+}
+
+/// Ranges among the levels of rules, also with their ends the other way round.
+#[test]
+fn ranges() {
+    let mut chance = Chance::new(15);
+    let mut altered = Altered::default();
+    let apart = Exclusion::of_roles(2, &[Role::of(1), Role::of(2)]).unwrap();
+    let mut reversed = 0;
+    for _ in 0..500 {
+        let depth = chance.from(1, 4);
+        let levels: Vec<Level> = (0..depth).map(|_| level(&mut chance)).collect();
+        for level in &levels {
+            altered.try_out(&mut chance, level);
+            as_its_text(level);
+            if let Mark::Range { low, high } = level.mark() {
+                let text = format!("{}={high} to {low}", level.context_type());
+                let (low, high) = (high, low);
+                let empty = ParseError::Build(BuildError::EmptyRange { low, high });
+                let expected = if low == high { Ok(*level) } else { Err(empty) };
+                assert_eq!(text.parse(), expected);
+                reversed += usize::from(low != high);
+            }
+        }
+        let levels = Levels::new(&levels).unwrap();
+        altered.try_out(&mut chance, &levels);
+        as_its_text(&levels);
+        let rule = Rule::over(levels).exclude(apart.clone());
+        altered.try_out(&mut chance, &rule);
+        altered.try_out(&mut chance, &PolicyBuilder::new().rule(rule));
+    }
+    assert!(reversed > 300, "{reversed} reversed");
+    assert!(altered.read > 1_000, "{} read", altered.read);
+    assert!(altered.not_read > 1_000, "{} not read", altered.not_read);
+}
+
 #[test]
 fn requests() {
     let mut chance = Chance::new(12);
     let mut altered = Altered::default();
     for _ in 0..500 {
-        let world = World::small(&mut chance);
+        let world = World::either(&mut chance);
         let one = world.request(&mut chance);
         let request = request(&one);
         assert_eq!(request.privilege, privilege(one.privilege));
@@ -176,7 +229,7 @@ fn grants_previews_and_refusals() {
         }
     };
     for _ in 0..200 {
-        let world = World::small(&mut chance);
+        let world = World::either(&mut chance);
         let policy = Policy::check(&world.image).unwrap();
         let mut table = policy.new_table(1).unwrap();
         for _ in 0..20 {
@@ -201,7 +254,7 @@ fn policies() {
     let mut chance = Chance::new(14);
     let mut altered = Altered::default();
     for _ in 0..200 {
-        let world = World::small(&mut chance);
+        let world = World::either(&mut chance);
         let text = Policy::check(&world.image).unwrap().to_string();
         let builder: PolicyBuilder = text.parse().unwrap();
         assert_eq!(builder.to_string(), text);
@@ -269,6 +322,56 @@ fn policies_that_are_not_read() {
     form::<PolicyBuilder>(&["rule 2: over 1=*\n  exclusion 1: 2 of roles 1, 2\n"]);
     let twice = "2 of roles 1, 1".parse::<Exclusion>().unwrap_err();
     assert_eq!(twice, ParseError::Build(BuildError::RoleTwice(Role::of(1))));
+}
+
+#[test]
+fn ranges_that_are_not_read() {
+    let one: Level = "1=100 to 100".parse().unwrap();
+    assert_eq!(one.to_string(), "1=100 to 100");
+    assert_ne!("1=100".parse(), Ok(one));
+    form::<Level>(&[
+        "1=100 to",
+        "1=100 to ",
+        "1= to 199",
+        "1=to 199",
+        "1=100to199",
+    ]);
+    form::<Level>(&[
+        "1=100  to 199",
+        "1=100 to  199",
+        "1= 100 to 199",
+        "1=100 to 199 ",
+    ]);
+    form::<Level>(&["1=100-199", "1=100..199", "1=100 To 199", "1=100\tto 199"]);
+    form::<Level>(&[
+        "1=* to 199",
+        "1=100 to !",
+        "1=100 to 150 to 199",
+        "1=100 to 1=199",
+    ]);
+    form::<Level>(&[
+        "1=0100 to 199",
+        "1=100 to +199",
+        "=100 to 199",
+        "depot 100 to 199",
+    ]);
+    form::<Levels>(&["1=100 to 199,2=!", "1=100 to 199, ", "100 to 199"]);
+    // A context has one value at each level.
+    form::<Context>(&["1=100 to 199", "1=100 to 100"]);
+    out_of_range::<Level>("1=0 to 199");
+    out_of_range::<Level>("1=100 to 0");
+    out_of_range::<Level>("1=100 to 65536");
+    out_of_range::<Level>("0=100 to 199");
+    let [low, high] = [199, 100].map(ContextValue::of);
+    let empty = ParseError::Build(BuildError::EmptyRange { low, high });
+    let words = "199 to 100 is an empty range: low <= high is asked";
+    assert_eq!(empty.to_string(), words);
+    assert_eq!("1=199 to 100".parse::<Level>(), Err(empty.clone()));
+    assert_eq!("1=*, 2=199 to 100".parse::<Levels>(), Err(empty.clone()));
+    let rule = "over 1=199 to 100\n  exclusion 1: 2 of roles 1, 2";
+    assert_eq!(rule.parse::<Rule>(), Err(empty.clone()));
+    let policy = format!("rule 1: {rule}\n");
+    assert_eq!(policy.parse::<PolicyBuilder>(), Err(empty));
 }
 
 #[test]

@@ -16,7 +16,7 @@ fn builders_and_readers() {
     for i in 0..300 {
         let world = match i % 100 {
             0 => World::large(&mut chance),
-            _ => World::small(&mut chance),
+            _ => World::either(&mut chance),
         };
         let (built, same) = build(&world);
         assert!(built == same, "the policy's image is another");
@@ -62,20 +62,28 @@ fn tables(policy: &Policy, blocks: usize, records: &[images::Record]) {
     assert_eq!(table.to_string().lines().count(), records.len() + 1);
 }
 
-/// What the getters say, beside what the independent types have.
+/// A level's eight bytes, put together from what its getters say.
+fn bytes_of(level: &Level) -> Vec<u8> {
+    let (mark, value, high) = match level.mark() {
+        Mark::Fixed(value) => (1, value.get(), 0),
+        Mark::Every => (2, 0, 0),
+        Mark::Each => (3, 0, 0),
+        Mark::Range { low, high } => (4, low.get(), high.get()),
+    };
+    let fixed = level.value().map(|value| value.get());
+    assert_eq!(fixed, (mark == 1).then_some(value));
+    let numbers = [level.context_type().get(), mark, value, high];
+    numbers.map(u16::to_le_bytes).concat()
+}
+
+/// What the getters say, beside what the independent types have; of the levels, beside the bytes
+/// that the independent writer has written too.
 fn getters(world: &World, policy: &Policy) {
-    for (rule, same) in policy.rules().zip(&world.policy.rules) {
+    let blocks = policy.image().chunks_exact(BLOCK);
+    for ((rule, same), block) in policy.rules().zip(&world.policy.rules).zip(blocks) {
         assert_eq!(rule.depth(), same.levels.len());
-        for (level, same) in rule.levels().iter().zip(&same.levels) {
-            assert_eq!(level.context_type().get(), same.kind);
-            let value = level.value().map(|value| value.get());
-            let mark = match level.mark() {
-                Mark::Fixed(_) => images::Mark::Fixed(value.unwrap()),
-                Mark::Every => images::Mark::Every,
-                Mark::Each => images::Mark::Each,
-            };
-            assert_eq!(mark, same.mark);
-            assert_eq!(value.is_some(), matches!(level.mark(), Mark::Fixed(_)));
+        for (level, bytes) in rule.levels().iter().zip(block[16..48].chunks_exact(8)) {
+            assert_eq!(bytes_of(&level), bytes);
         }
         assert_eq!(rule.first_step(), same.first.map(privilege));
         assert_eq!(rule.last_step(), same.last.map(privilege));
@@ -135,6 +143,143 @@ fn exclusions_and_rules_that_cannot_be_built() {
     assert_eq!(build(equal), Err(BuildError::EqualSteps { rule: 1 }));
 }
 
+fn range(kind: u16, low: u16, high: u16) -> Result<Level, BuildError> {
+    let [low, high] = [low, high].map(ContextValue::of);
+    Level::range(ContextType::of(kind), low..=high)
+}
+
+#[test]
+fn ranges_that_cannot_be_built() {
+    for (low, high) in [(1, 1), (1, 65535), (65535, 65535), (100, 100), (255, 256)] {
+        let level = range(1, low, high).unwrap();
+        assert_eq!(level.to_string(), format!("1={low} to {high}"));
+        assert_eq!(level.value(), None);
+        let [low, high] = [low, high].map(ContextValue::of);
+        assert_eq!(level.mark(), Mark::Range { low, high });
+    }
+    for (low, high) in [(2, 1), (199, 100), (65535, 1), (65535, 65534), (256, 255)] {
+        let refused = range(1, low, high);
+        let [low, high] = [low, high].map(ContextValue::of);
+        assert_eq!(refused, Err(BuildError::EmptyRange { low, high }));
+    }
+}
+
+/// Every mark with numbers at the edges, put into the second level of a policy that was built: the
+/// engine takes just what documents 01 and 02 say, and the wrapper reads what stands there.
+#[test]
+fn levels_as_bytes() {
+    let depot = Level::every(ContextType::of(1));
+    let rule = Rule::over([depot, range(2, 100, 199).unwrap()]).exclude(apart());
+    let built = PolicyBuilder::new().rule(rule).build().unwrap();
+    assert_eq!(built[24..32], [2, 0, 4, 0, 100, 0, 199, 0]);
+    let edges = [0, 1, 2, 99, 100, 199, 200, 255, 256, 65534, 65535];
+    // The last one is mark 4 with 1 in the byte behind it, which is zero.
+    let taken = [0, 1, 2, 3, 4, 5, 0x0104].map(|mark| {
+        let mut taken = 0;
+        for (low, high) in edges.iter().flat_map(|&low| edges.map(|high| (low, high))) {
+            let bytes = [2, mark, low, high].map(u16::to_le_bytes).concat();
+            let mut image = built.clone();
+            image[24..32].copy_from_slice(&bytes);
+            images::reseal(&mut image);
+            let good = match mark {
+                1 => low > 0 && high == 0,
+                2 | 3 => low == 0 && high == 0,
+                4 => low > 0 && low <= high,
+                _ => false,
+            };
+            let policy = Policy::check(&image);
+            if !good {
+                assert_eq!(policy, Err(Refusal::Rule { block: 0 }), "{bytes:?}");
+                continue;
+            }
+            let rule = policy.unwrap().rules().next().unwrap();
+            assert_eq!(bytes_of(&rule.levels().iter().nth(1).unwrap()), bytes);
+            let again = PolicyBuilder::new().rule(rule).build().unwrap();
+            assert!(again == image, "{bytes:?} were read, and written as others");
+            taken += 1;
+        }
+        taken
+    });
+    assert_eq!(taken, [0, 10, 1, 1, 55, 0, 0]);
+}
+
+/// Whether a record in this context may be marked for rule 1: builder and engine say the same.
+fn may_be_marked(policy: &Policy, context: Vec<(u16, u16)>) -> bool {
+    let (operation, target) = (1, 1);
+    let asked = images::Request {
+        user: 7,
+        roles: 1,
+        privilege: images::Privilege { operation, target },
+        context,
+    };
+    let built = TableBuilder::new(policy, 1).record(request(&asked), &[1]);
+    let marked = images::Record {
+        request: asked,
+        marks: 1,
+    };
+    let image = images::write_table(images::sums(policy.image()), &[marked], 1);
+    let (block, record, rule) = (0, 1, 1);
+    match policy.own_table(image.clone()) {
+        Ok(_) => assert_eq!(built.build(), Ok(image)),
+        Err(refusal) => {
+            assert_eq!(refusal, Refusal::Record { block, record });
+            let error = BuildError::DoesNotFit { record: 1, rule };
+            assert_eq!(built.build(), Err(error));
+        }
+    }
+    built.build().is_ok()
+}
+
+/// A range at each level in turn, and contexts at its edges.
+#[test]
+fn marks_at_the_edges_of_ranges() {
+    let values = [1, 2, 99, 100, 101, 199, 200, 256, 65534, 65535];
+    let ranges = [(100, 199), (1, 65535), (1, 1), (100, 100), (65535, 65535)];
+    for (at, (low, high)) in (0..4).flat_map(|at| ranges.map(|range| (at, range))) {
+        let mut levels = [1, 2, 3, 4].map(|kind| Level::each(ContextType::of(kind)));
+        let kind = levels[at].context_type().get();
+        levels[at] = range(kind, low, high).unwrap();
+        let policy = PolicyBuilder::new().rule(Rule::over(levels).exclude(apart()));
+        let policy = Policy::own(policy.build().unwrap()).unwrap();
+        for value in values {
+            let context = |level| {
+                let mut context = [1, 2, 3, 4].map(|kind| (kind, 150));
+                context[at] = level;
+                context.to_vec()
+            };
+            let fits = low <= value && value <= high;
+            let marked = may_be_marked(&policy, context((kind, value)));
+            assert_eq!(marked, fits, "{low} to {high}: {value}");
+            assert!(!may_be_marked(&policy, context((9, value))));
+        }
+    }
+}
+
+/// What is done at one value of a range counts at all others, and at none outside.
+#[test]
+fn a_range_is_one_run_place() {
+    let twice = Exclusion::of_privileges(2, &[step(), step()]).unwrap();
+    let policy = PolicyBuilder::new()
+        .rule(Rule::over([range(1, 100, 199).unwrap()]).exclude(twice))
+        .permit(Role::of(1), step());
+    let policy = Policy::own(policy.build().unwrap()).unwrap();
+    let at = |depot| {
+        let context = [(ContextType::of(1), ContextValue::of(depot))];
+        Request::new(User::of(7), Role::of(1), step(), context)
+    };
+    let mut table = policy.new_table(1).unwrap();
+    for (depot, answer) in [
+        (99, "grant 0 0 0"),
+        (100, "grant 1 0 1"),
+        (199, "refuse 33 1 1"),
+        (150, "refuse 33 1 1"),
+        (200, "grant 0 0 1"),
+    ] {
+        let decided = Line(table.decide(&at(depot)));
+        assert_eq!(decided.to_string(), answer, "depot {depot}");
+    }
+}
+
 #[test]
 fn policies_that_cannot_be_built() {
     assert!(policy_of(32, 0).build().is_ok());
@@ -175,7 +320,7 @@ fn marks_that_do_not_fit() {
     let mut chance = Chance::new(2);
     let mut seen = [0; 3];
     for _ in 0..2_000 {
-        let world = World::small(&mut chance);
+        let world = World::either(&mut chance);
         let policy = Policy::check(&world.image).unwrap();
         let asked = world.request(&mut chance);
         let rule = chance.from(1, 32) as u32;
@@ -232,7 +377,7 @@ fn previews() {
     let mut chance = Chance::new(3);
     let mut seen: BTreeMap<u32, usize> = BTreeMap::new();
     for _ in 0..300 {
-        let world = World::small(&mut chance);
+        let world = World::either(&mut chance);
         let policy = Policy::check(&world.image).unwrap();
         let mut table = policy.new_table(1).unwrap();
         for _ in 0..50 {
@@ -265,7 +410,7 @@ fn previews() {
 #[test]
 fn readers_at_once() {
     let mut chance = Chance::new(4);
-    let world = World::small(&mut chance);
+    let world = World::either(&mut chance);
     let records = world.records(&mut chance, images::places(128));
     let image = images::write_table(world.stamp(), &records, 128);
     let policy = Policy::check(&world.image).unwrap();

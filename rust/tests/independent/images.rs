@@ -22,6 +22,8 @@ pub enum Mark {
     Fixed(u16),
     Every,
     Each,
+    /// From a low value to a high one, both included.
+    Range(u16, u16),
 }
 
 #[derive(Clone, Copy, PartialEq, Eq, Debug)]
@@ -224,15 +226,15 @@ fn read_outside_exclusions(block: &[u8]) -> Option<Rule> {
 
 fn read_level(bytes: &[u8]) -> Option<Level> {
     let kind = u16_at(bytes, 0);
-    let value = u16_at(bytes, 4);
-    let mark = match (bytes[2], value) {
-        (1, 1..) => Mark::Fixed(value),
-        (2, 0) => Mark::Every,
-        (3, 0) => Mark::Each,
+    let (value, high) = (u16_at(bytes, 4), u16_at(bytes, 6));
+    let mark = match (bytes[2], value, high) {
+        (1, 1.., 0) => Mark::Fixed(value),
+        (2, 0, 0) => Mark::Every,
+        (3, 0, 0) => Mark::Each,
+        (4, 1.., _) if value <= high => Mark::Range(value, high),
         _ => return None,
     };
-    let good = kind != 0 && bytes[3] == 0 && all_zero(&bytes[6..8]);
-    good.then_some(Level { kind, mark })
+    (kind != 0 && bytes[3] == 0).then_some(Level { kind, mark })
 }
 
 /// The step, or `None` for one that is not set; `None` outside for a bad one.
@@ -344,13 +346,15 @@ fn write_rule(block: &mut [u8], rule: &Rule) {
     for (i, level) in rule.levels.iter().enumerate() {
         let at = 16 + 8 * i;
         put_u16(block, at, level.kind);
-        let (mark, value) = match level.mark {
-            Mark::Fixed(value) => (1, value),
-            Mark::Every => (2, 0),
-            Mark::Each => (3, 0),
+        let (mark, value, high) = match level.mark {
+            Mark::Fixed(value) => (1, value, 0),
+            Mark::Every => (2, 0, 0),
+            Mark::Each => (3, 0, 0),
+            Mark::Range(low, high) => (4, low, high),
         };
         block[at + 2] = mark;
         put_u16(block, at + 4, value);
+        put_u16(block, at + 6, high);
     }
     for (at, step) in [(48, rule.first), (52, rule.last)] {
         if let Some(privilege) = step {

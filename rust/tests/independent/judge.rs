@@ -4,7 +4,8 @@ use super::images::*;
 use super::{refuse_unless, Answer, Reply};
 
 /// "A context fits a rule if it has at least the rule's depth and, at each rule level, the same
-/// type, and for mark 1 the same value."
+/// type, and for mark 1 the same value." And document 02, for mark 4: "A context fits when its value
+/// is from low to high, both included."
 pub fn fits(rule: &Rule, context: &Context) -> bool {
     context.len() >= rule.levels.len()
         && rule
@@ -16,12 +17,13 @@ pub fn fits(rule: &Rule, context: &Context) -> bool {
                     && match level.mark {
                         Mark::Fixed(wanted) => value == wanted,
                         Mark::Every | Mark::Each => true,
+                        Mark::Range(low, high) => low <= value && value <= high,
                     }
             })
 }
 
 /// A run place: the value at each mark 3, and 0 at the other levels. Two fitting contexts share one
-/// if these are equal.
+/// if these are equal. So "all values in the range share a run place".
 pub type Place = [u16; 4];
 
 /// The run place of a fitting context.

@@ -136,14 +136,20 @@ fn bits(mut set: u32) -> impl Iterator<Item = usize> {
 // ---------------------------------------------------------------------------------------------
 // The policy
 
-/// An accepted policy, its rules' contexts and steps made ready for comparing.
+/// An accepted policy, its rules' contexts and steps made ready for comparing. It is laid so that no
+/// four levels lie across a cache line: by chance alone a decision on a full table took 3 % longer.
+#[repr(C, align(64))]
 struct Policy<'p> {
     blocks: &'p [Block],
     rules: usize,
     stamp: Sums,
-    /// A context fits a rule if no level differs from `want` in a bit of `mask`.
+    /// A context fits a rule if no level differs from `want` in a bit of `mask`, and no value is more
+    /// than `span` above the one in `want`. Only a range has less than the whole span.
     want: [Context; 32],
     mask: [Context; 32],
+    span: [[u16; 4]; 32],
+    /// Whether there is a range at all: without one, nothing is asked of `span`.
+    ranged: bool,
     /// For each level the rules that have mark 3 there.
     each: [u32; 4],
     /// The rules that have a first, a last step.
@@ -159,6 +165,8 @@ fn read_policy(image: &[u8]) -> Answer<Policy<'_>> {
         stamp: Sums::START,
         want: [[0; 4]; 32],
         mask: [[0; 4]; 32],
+        span: [[0xFFFF; 4]; 32],
+        ranged: false,
         each: [0; 4],
         with_first: 0,
         with_last: 0,
@@ -211,38 +219,68 @@ impl Policy<'_> {
 
     /// Takes down one of a rule's four levels; says whether it is good.
     fn add_level(&mut self, rule: usize, level: usize, depth: usize, block: &Block) -> bool {
-        let (low, value) = (word(block, 4 + 2 * level), word(block, 5 + 2 * level));
-        let (kind, mark) = (low & 0xFFFF, low >> 16);
+        let (begin, end) = (word(block, 4 + 2 * level), word(block, 5 + 2 * level));
+        let (kind, mark) = (begin & 0xFFFF, begin >> 16);
+        let (low, high) = (end & 0xFFFF, end >> 16);
         if level >= depth {
-            return low == 0 && value == 0;
+            return begin == 0 && end == 0;
         }
-        self.want[rule][level] = kind | value << 16;
+        self.want[rule][level] = kind | low << 16;
         self.mask[rule][level] = if mark == 1 { 0xFFFF_FFFF } else { 0xFFFF };
         if mark == 3 {
             self.each[level] |= 1 << rule;
         }
+        if mark == 4 {
+            self.span[rule][level] = high.wrapping_sub(low) as u16;
+            self.ranged = true;
+        }
         let good_value = match mark {
-            1 => (1..=0xFFFF).contains(&value),
-            2 | 3 => value == 0,
+            1 => low != 0 && high == 0,
+            2 | 3 => end == 0,
+            4 => low != 0 && low <= high,
             _ => false,
         };
         kind != 0 && good_value
     }
 
     /// Zero if the context fits the rule.
-    fn off(&self, rule: usize, context: &Context) -> u32 {
+    fn off<const RANGED: bool>(&self, rule: usize, context: &Context) -> u32 {
         let (want, mask) = (&self.want[rule % 32], &self.mask[rule % 32]);
-        (0..4).fold(0, |off, i| off | (context[i] ^ want[i]) & mask[i])
+        let off = (0..4).fold(0, |off, i| off | (context[i] ^ want[i]) & mask[i]);
+        if RANGED {
+            off | u32::from(self.beyond(rule, context))
+        } else {
+            off
+        }
+    }
+
+    /// Zero if every value is within its span. One below the range is as far above it as can be.
+    fn beyond(&self, rule: usize, context: &Context) -> u16 {
+        let (want, span) = (&self.want[rule % 32], &self.span[rule % 32]);
+        (0..4).fold(0, |beyond, i| {
+            let above = ((context[i] >> 16) as u16).wrapping_sub((want[i] >> 16) as u16);
+            beyond | above.saturating_sub(span[i])
+        })
     }
 
     /// The rules that a context fits.
     fn fitting(&self, context: &Context) -> u32 {
-        (0..self.rules).fold(0, |set, r| set | u32::from(self.off(r, context) == 0) << r)
+        if self.ranged {
+            self.fitting_where::<true>(context)
+        } else {
+            self.fitting_where::<false>(context)
+        }
+    }
+
+    fn fitting_where<const RANGED: bool>(&self, context: &Context) -> u32 {
+        (0..self.rules).fold(0, |set, r| {
+            set | u32::from(self.off::<RANGED>(r, context) == 0) << r
+        })
     }
 
     /// Whether a context fits all of these rules, each of which the policy must have. They are taken
     /// two by two: most records have one mark or two, and then nothing depends on which.
-    fn fits_all(&self, context: &Context, rules: u32) -> bool {
+    fn fits_all<const RANGED: bool>(&self, context: &Context, rules: u32) -> bool {
         let there = u64::from(rules) >> self.rules == 0;
         let (mut off, mut rest) = (0, rules);
         while rest != 0 {
@@ -253,14 +291,15 @@ impl Policy<'_> {
             } else {
                 others.trailing_zeros()
             };
-            off |= self.off(one as usize, context) | self.off(other as usize, context);
+            off |= self.off::<RANGED>(one as usize, context)
+                | self.off::<RANGED>(other as usize, context);
             rest = others & others.wrapping_sub(1);
         }
         there & (off == 0)
     }
 
     /// The rules, of those that both contexts fit, under which they share a run place. Where both
-    /// fit the types are equal, so that levels can be compared whole.
+    /// fit the types are equal, so that levels can be compared whole. Only mark 3 parts places.
     fn sharing(&self, one: &Context, other: &Context) -> u32 {
         !(0..4).fold(0, |apart, i| {
             apart | if one[i] == other[i] { 0 } else { self.each[i] }
@@ -408,6 +447,14 @@ fn all_records(table: &[Block]) -> impl Iterator<Item = (Request, u32)> + '_ {
 
 /// Checks a table; the number of its records.
 fn count_records(policy: &Policy, table: &[u8]) -> Answer<usize> {
+    if policy.ranged {
+        count_records_where::<true>(policy, table)
+    } else {
+        count_records_where::<false>(policy, table)
+    }
+}
+
+fn count_records_where<const RANGED: bool>(policy: &Policy, table: &[u8]) -> Answer<usize> {
     let blocks = blocks(table, 128, 11)?;
     let mut held = 0;
     for (number, block) in blocks.iter().enumerate() {
@@ -428,7 +475,7 @@ fn count_records(policy: &Policy, table: &[u8]) -> Answer<usize> {
         };
         refuse_unless(stamp == policy.stamp, 14, number, 0)?;
         let records = records_in(block, count);
-        let good = |record| good_record(policy, record);
+        let good = |record| good_record::<RANGED>(policy, record);
         if !records.iter().fold(true, |all, record| all & good(record)) {
             let first_bad = records.iter().position(|record| !good(record));
             refuse_unless(false, 15, number, first_bad.map_or(0, |i| i + 1))?;
@@ -438,9 +485,9 @@ fn count_records(policy: &Policy, table: &[u8]) -> Answer<usize> {
     Ok(held)
 }
 
-fn good_record(policy: &Policy, bytes: &[u8; 32]) -> bool {
+fn good_record<const RANGED: bool>(policy: &Policy, bytes: &[u8; 32]) -> bool {
     let (request, marks) = read_record(bytes);
-    request.is_good() & (marks != 0) & policy.fits_all(&request.context, marks)
+    request.is_good() & (marks != 0) & policy.fits_all::<RANGED>(&request.context, marks)
 }
 
 fn make_fresh(policy: &Policy, table: &mut [u8]) -> Answer<usize> {

@@ -5,6 +5,7 @@
 //! one role or one privilege is counted wrongly.
 
 use super::chance::Chance;
+use super::world::range;
 use crate::independent::images::*;
 use crate::independent::judge::{fits, place, Tally};
 use std::collections::BTreeSet;
@@ -257,8 +258,9 @@ impl Busy {
             2 => chance.from(5, 16),
             _ => chance.from(17, 32),
         };
-        // Of a hundred levels so many have a fixed value, so many tell run places apart.
-        let (fixed, each) = chance.pick(&[(0, 0), (0, 40), (15, 30)]);
+        // Of a hundred levels so many have a fixed value, so many tell run places apart, so many are
+        // ranges.
+        let (fixed, each, ranged) = chance.pick(&[(0, 0, 0), (0, 40, 0), (15, 30, 0), (5, 20, 40)]);
         let (first, last) = (chance.pick(&[0, 0, 0, 40]), chance.pick(&[0, 30, 100]));
         let one_last = chance.percent(50);
         for _ in 0..rules {
@@ -267,6 +269,7 @@ impl Busy {
                 let mark = match chance.below(100) {
                     one if one < fixed => Mark::Fixed(chance.pick(&values)),
                     one if one < fixed + each => Mark::Each,
+                    one if one < fixed + each + ranged => range(chance, &values),
                     _ => Mark::Every,
                 };
                 Level { kind, mark }

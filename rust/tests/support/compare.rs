@@ -3,6 +3,7 @@
 use super::guarded::{Guarded, SHIFTS};
 use super::lent::{Lay, Lent};
 use super::plain;
+use super::ranged;
 use super::written::{differing_bytes, Change, NONE};
 use crate::independent::images::{places, BLOCK};
 use crate::independent::{judge, quick, Reply};
@@ -214,6 +215,9 @@ impl Comparing {
     ) -> (Reply, usize) {
         let before = table.to_vec();
         let (reply, by_quick) = self.decide_alone(policy, table, request);
+        for what in ranged::meets(policy, &before, request, reply) {
+            self.seen.note(what);
+        }
         let written = self.probe(policy, &before, table, request);
         let differing = differing_bytes(&before, table);
         assert_eq!(written, differing.len(), "the probe: blocks that differ");

@@ -12,6 +12,7 @@ pub mod guarded;
 pub mod lent;
 pub mod lists;
 pub mod plain;
+pub mod ranged;
 pub mod repeated;
 pub mod world;
 pub mod wrapped;

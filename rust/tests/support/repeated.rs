@@ -156,7 +156,13 @@ fn held(chance: &mut Chance, blocks: usize) -> usize {
 /// all that it fits, and gives no mark; what was done in a job is marked for others too, which stay.
 fn rule(chance: &mut Chance, apart: bool) -> Rule {
     let level = |kind, mark| Level { kind, mark };
-    let depot_mark = chance.pick(&[Mark::Every, Mark::Each, Mark::Fixed(1)]);
+    let depot_mark = chance.pick(&[
+        Mark::Every,
+        Mark::Each,
+        Mark::Fixed(1),
+        Mark::Range(1, 2),
+        Mark::Range(2, 9),
+    ]);
     let depot = level(DEPOT, depot_mark);
     let job = level(JOB, chance.pick(&[Mark::Every, Mark::Each]));
     let levels = chance.pick(&[vec![], vec![depot], vec![depot], vec![depot, job]]);

@@ -116,6 +116,38 @@ impl World {
         World::of(chance, Size::LARGE)
     }
 
+    /// The same world with ranges at many levels of its rules, and values that lie about their ends.
+    pub fn with_ranges(mut self, chance: &mut Chance) -> World {
+        self.values = about_a_range(chance);
+        for level in self.policy.rules.iter_mut().flat_map(|r| &mut r.levels) {
+            level.mark = match level.mark {
+                _ if chance.percent(45) => range(chance, &self.values),
+                Mark::Fixed(_) => Mark::Fixed(chance.pick(&self.values)),
+                other => other,
+            };
+        }
+        self.image = write_policy(&self.policy);
+        self
+    }
+
+    /// A small world that has a range for certain.
+    pub fn ranged(chance: &mut Chance) -> World {
+        loop {
+            let world = World::small(chance).with_ranges(chance);
+            if world.policy.rules.iter().any(has_range) {
+                return world;
+            }
+        }
+    }
+
+    /// A small world, which has a range in half of the cases.
+    pub fn either(chance: &mut Chance) -> World {
+        match chance.percent(50) {
+            true => World::ranged(chance),
+            false => World::small(chance),
+        }
+    }
+
     fn of(chance: &mut Chance, size: Size) -> World {
         let as_u16 = |numbers: Vec<usize>| numbers.iter().map(|&n| n as u16).collect::<Vec<_>>();
         // Some have the operation in common, some the target.
@@ -251,7 +283,8 @@ impl World {
         }
     }
 
-    /// A request whose context fits some rule, often for the rule's first or last step.
+    /// A request whose context fits some rule, or is one past its range; often for the rule's first or
+    /// last step.
     fn request_for_a_rule(&self, chance: &mut Chance) -> Request {
         let rule = chance.pick(&self.policy.rules);
         let step = chance.pick(&[rule.first, rule.last, rule.last]);
@@ -260,8 +293,10 @@ impl World {
         let mut context = self.context(chance, depth);
         for (level, (kind, value)) in rule.levels.iter().zip(&mut context) {
             *kind = level.kind;
-            if let Mark::Fixed(wanted) = level.mark {
-                *value = wanted;
+            match level.mark {
+                Mark::Fixed(wanted) => *value = wanted,
+                Mark::Range(low, high) => *value = about(chance, low, high),
+                Mark::Every | Mark::Each => {}
             }
         }
         let role = self.role_for(chance, privilege);
@@ -328,6 +363,56 @@ impl World {
 
     pub fn stamp(&self) -> (u32, u32) {
         sums(&self.image)
+    }
+}
+
+pub fn has_range(rule: &Rule) -> bool {
+    (rule.levels.iter()).any(|level| matches!(level.mark, Mark::Range(..)))
+}
+
+/// Few values, in order: one below a range, its low, one between, its high, one above.
+fn about_a_range(chance: &mut Chance) -> Vec<u16> {
+    const LAST: usize = u16::MAX as usize;
+    let width = chance.pick(&[0, 1, 1, 2, 3, 99, 40_000]);
+    let low = match chance.below(4) {
+        0 => 1,
+        1 => LAST - width,
+        _ => chance.from(1, LAST - width),
+    };
+    let high = low + width;
+    let mut values = vec![low - 1, low, low + width / 2, high, high + 1];
+    values.retain(|value| (1..=LAST).contains(value));
+    values.dedup();
+    values.iter().map(|&value| value as u16).collect()
+}
+
+/// A range that ends at two of these values or next to them, so that several of them overlap, touch
+/// and nest; some begin with 1, some end with 65535.
+pub fn range(chance: &mut Chance, values: &[u16]) -> Mark {
+    let [one, other] = [(); 2].map(|()| {
+        let value = chance.pick(values);
+        match chance.below(6) {
+            0 => (value - 1).max(1),
+            1 => value.saturating_add(1),
+            _ => value,
+        }
+    });
+    let (low, high) = (one.min(other), one.max(other));
+    match chance.below(12) {
+        0 => Mark::Range(1, high),
+        1 => Mark::Range(low, u16::MAX),
+        _ => Mark::Range(low, high),
+    }
+}
+
+/// A value at an end of a range or between; now and then one past an end.
+fn about(chance: &mut Chance, low: u16, high: u16) -> u16 {
+    match chance.below(10) {
+        0..=3 => low,
+        4..=6 => high,
+        7 => chance.from(low.into(), high.into()) as u16,
+        8 => (low - 1).max(1),
+        _ => high.saturating_add(1),
     }
 }
 

@@ -20,6 +20,10 @@ pub fn rule(rule: &images::Rule) -> Rule {
                 images::Mark::Fixed(value) => Level::fixed(kind, ContextValue::of(value)),
                 images::Mark::Every => Level::every(kind),
                 images::Mark::Each => Level::each(kind),
+                images::Mark::Range(low, high) => {
+                    let [low, high] = [low, high].map(ContextValue::of);
+                    Level::range(kind, low..=high).unwrap()
+                }
             }
         })
         .collect();
