@@ -6,8 +6,7 @@ use native.Mathlib.Omega.{arith}
 use mathlib.Core.Path.{_≡_, refl, sym, ap, ap₂, _∙_}
 use mathlib.Core.Bool.{Bool, true, false, cond, not, _&&_, _||_, and-true, and-false}
 use mathlib.Core.List.{List}
-use lib.ListN.{length, getD, set}
-use lib.Seq.{getD-set-same, getD-set-other}
+use lib.ListN.{length, getD}
 use lib.Dec.{eqb, leb, ltb}
 use borrow.Author.Tests.{ne-eqb, eqb-true, eqb-false, le-leb, lt-leb, lt-ltb, le-ltb}
 use Rattle.words.specs.Lists.{allBelow}
@@ -19,7 +18,7 @@ use Rattle.format.specs.Fits.{levelFits, fits}
 use Rattle.format.specs.Policy.{Policy, policyOf}
 use Rattle.table_check.specs.Bounds.{levelNumber, levelFirst, markSpan, levelSpan, boundWord, reached, boundFits, boundsFit, pairsBounded, Tests}
 use Rattle.table_check.specs.Shapes.{paired}
-use Rattle.table_check.proofs.GoodLevels.{LevelStands, asks, blank-parts, range-rises, no-value, level-stands, levelWord, word-small, words-fit}
+use Rattle.table_check.proofs.GoodLevels.{asks, blank-parts, range-rises, no-value, level-stands, levelWord, word-small, words-fit}
 
 -- ---- numbers from a first to a last
 
@@ -185,16 +184,8 @@ bounded p rules shapes bounds of whole s at bytes request i h =
         let m : (8 * i + n) % 8 ≡ n = omega arith in
         rw (d, m) at (of .bounded whole (8 * i + n) (omega arith))
 
--- ---- the bounds of a policy, made number by number
+-- ---- the bounds of a policy
 
--- the first k numbers are made
-abbrev pub BoundedBelow : List ℕ → List ℕ → ℕ → Type 0
-BoundedBelow policy out k = (j : ℕ) → j < k → getD out j 0 ≡ boundWord (policyOf policy .rule (j / 8)) (j % 8)
-
-pub bounded-more : (policy out : List ℕ) (k x : ℕ) → BoundedBelow policy out k → k < length out → x ≡ boundWord (policyOf policy .rule (k / 8)) (k % 8)
-    → BoundedBelow policy (set out k x) (k + 1)
-bounded-more policy out k x made inside e j h = go (decLt j k)
-  where
-    go : Dec (j < k) → getD (set out k x) j 0 ≡ boundWord (policyOf policy .rule (j / 8)) (j % 8)
-    go (yes b) = getD-set-other out k j x 0 (λ s. omega arith) ∙ made j b
-    go (no b) = let s : j ≡ k = omega arith in rw s (getD-set-same out k x 0 inside ∙ e)
+-- number j of all the bounds
+abbrev pub boundNumber : List ℕ → ℕ → ℕ
+boundNumber policy j = boundWord (policyOf policy .rule (j / 8)) (j % 8)

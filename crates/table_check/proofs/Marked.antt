@@ -17,7 +17,7 @@ use Rattle.format.specs.Fits.{fits}
 use Rattle.format.specs.Policy.{Policy}
 use Rattle.format.specs.Table.{goodMarks, goodRecord}
 use Rattle.format.specs.Records.{recordFrom}
-use Rattle.table_check.specs.Shapes.{paired, plain, shapeFits, marksWithin, marksPass}
+use Rattle.table_check.specs.Shapes.{paired, shapeFits, marksWithin, marksPass}
 use Rattle.table_check.specs.Bounds.{pairsBounded, Tests}
 use Rattle.table_check.proofs.GoodLevels.{levelWord}
 use Rattle.table_check.proofs.Fitting.{shaped}
@@ -93,14 +93,10 @@ module _ (p : Policy) (rules : ℕ) (shapes bounds : List ℕ) (of : Tests p rul
     abbrev shape : ℕ → Bool
     shape = shapeFits shapes (levelsAt s at 0) (levelsAt s at 2)
 
-    has-shape : (i : ℕ) → i < rules → shape i ≡ fits (p .rule i) (part s at 28) && plain (p .rule i)
-    has-shape = shaped p rules shapes (of .shaped) s at bytes request
-
     -- without a range, and so without bounds, the shapes tell all
     pub by-shapes : (length bounds ≡ 256 → ⊥) → marksPass shape (u32At s (at + 28)) ≡ goodMarks p (recordFrom s at)
     by-shapes absent =
-        marks-same p rules (of .shaped .count) s at within shape
-        (λ i h. has-shape i h ∙ ap (λ (b : Bool). fits (p .rule i) (part s at 28) && b) (of .unbounded absent i h) ∙ and-true (fits (p .rule i) (part s at 28)))
+        marks-same p rules (of .shaped .count) s at within shape (λ i h. shaped p rules shapes (of .shaped) s at bytes request i h (of .unbounded absent i h))
 
     -- and with a range the bounds do
     pub by-bounds : length bounds ≡ 256 → marksPass (pairsBounded bounds (levelsAt s at 0) (levelsAt s at 2)) (u32At s (at + 28)) ≡ goodMarks p (recordFrom s at)

@@ -24,8 +24,7 @@ shapeNumbers = 4
 unfoldable pub levelWant : Rule → ℕ → ℕ
 levelWant r l = r .level l .type + 65536 * r .level l .value
 
--- the bits of the word that the rule asks: all at mark 1, those of the type at any other, and none past its depth. So no context has the shape of a rule
--- with a range: there is a low value in what is wanted, and the mask leaves no value.
+-- the bits of the word that the rule asks: all at mark 1, those of the type at any other, and none past its depth
 unfoldable pub levelMask : Rule → ℕ → ℕ
 levelMask r l = cond (ltb l (r .depth)) (cond (eqb (r .level l .mark) 1) 4294967295 65535) 0
 

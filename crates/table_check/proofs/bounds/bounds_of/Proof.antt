@@ -8,12 +8,13 @@ use borrow.Author.Needs.{needs}
 use Rattle.word_laws.proofs.Parts.{part-to, part-length}
 use Rattle.format.specs.Policy.{policyOf}
 use Rattle.format_laws.proofs.AcceptedPolicy.{rules-few, rules-most, rule-good}
-use Rattle.table_check.proofs.Bounded.{BoundedBelow, bounded-more}
+use Rattle.table_check.proofs.Made.{Made, made-more}
+use Rattle.table_check.proofs.Bounded.{boundNumber}
 use Rattle.table_check.proofs.bounds.bounds_of.Statement.{statement}
 use Rattle.table_check.proofs.bounds.bounds_of.Tie as tie
 
 abbrev Inv-loop : tie.InvT-loop
-Inv-loop policy rules out₀ n k₀ out k = (k ≤ n) × ((length out ≡ 256) × BoundedBelow policy out k)
+Inv-loop policy rules out₀ n k₀ out k = (k ≤ n) × ((length out ≡ 256) × Made (boundNumber policy) out k)
 
 abbrev μ-loop : tie.MeasureT-loop
 μ-loop policy rules out₀ n k₀ out k = n - k
@@ -73,7 +74,7 @@ loop-again c =
       omega arith,
       (
         length-set (l .out) (l .k) _ ∙ l .inv .1 .0,
-        bounded-more (a .policy .now) (l .out) (l .k) _ (l .inv .1 .1) (omega (arith, l .inv .1 .0, rules-most (a .policy .now) (call at .pre .0 .0)))
+        made-more (boundNumber (a .policy .now)) (l .out) (l .k) _ (l .inv .1 .1) (omega (arith, l .inv .1 .0, rules-most (a .policy .now) (call at .pre .0 .0)))
             (rw (part-to (a .policy .now) (512 * (l .k / 8)) 512) at (c .bound-word .ensures)),
       ),
     )

@@ -9,12 +9,13 @@ use Rattle.word_laws.proofs.Bytes.{Byte}
 use Rattle.word_laws.proofs.Parts.{part-to, part-length}
 use Rattle.format.specs.Policy.{policyOf}
 use Rattle.format_laws.proofs.AcceptedPolicy.{rules-few, rules-most}
-use Rattle.table_check.proofs.Fitting.{ShapedBelow, shaped-more, shapes-made}
+use Rattle.table_check.proofs.Made.{Made, made-more}
+use Rattle.table_check.proofs.Fitting.{shapeNumber, shapes-made}
 use Rattle.table_check.proofs.shapes.shapes_of.Statement.{statement}
 use Rattle.table_check.proofs.shapes.shapes_of.Tie as tie
 
 abbrev Inv-loop : tie.InvT-loop
-Inv-loop policy rules out₀ n k₀ out k = (k ≤ n) × ((length out ≡ 128) × ShapedBelow policy out k)
+Inv-loop policy rules out₀ n k₀ out k = (k ≤ n) × ((length out ≡ 128) × Made (shapeNumber policy) out k)
 
 abbrev μ-loop : tie.MeasureT-loop
 μ-loop policy rules out₀ n k₀ out k = n - k
@@ -73,7 +74,7 @@ loop-again c =
       omega arith,
       (
         length-set (l .out) (l .k) _ ∙ l .inv .1 .0,
-        shaped-more (a .policy .now) (l .out) (l .k) _ (l .inv .1 .1) (omega (arith, l .inv .1 .0, rules-most (a .policy .now) (p .0 .0)))
+        made-more (shapeNumber (a .policy .now)) (l .out) (l .k) _ (l .inv .1 .1) (omega (arith, l .inv .1 .0, rules-most (a .policy .now) (p .0 .0)))
             (rw (part-to (a .policy .now) (512 * (l .k / 4)) 512) at (c .shape-word .ensures)),
       ),
     )
