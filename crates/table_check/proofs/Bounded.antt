@@ -4,7 +4,7 @@ use Prim.Native.Nat.{ℕ, _+_, _-_, _*_, _/_, _%_, _<_, _≤_}
 use native.Mathlib.Decide.{decLe, decLt}
 use native.Mathlib.Omega.{arith}
 use mathlib.Core.Path.{_≡_, refl, sym, ap, ap₂, _∙_}
-use mathlib.Core.Bool.{Bool, true, false, cond, not, _&&_, _||_, and-true, and-false}
+use mathlib.Core.Bool.{Bool, true, false, cond, not, _&&_, _||_, and-assoc, and-true, and-false}
 use mathlib.Core.List.{List}
 use lib.ListN.{length, getD}
 use lib.Dec.{eqb, leb, ltb}
@@ -16,7 +16,7 @@ use Rattle.format.specs.Request.{goodRequest}
 use Rattle.format.specs.Rule.{Rule, Level, low, high, goodLevel, goodRule, blankLevel}
 use Rattle.format.specs.Fits.{levelFits, fits}
 use Rattle.format.specs.Policy.{Policy, policyOf}
-use Rattle.table_check.specs.Bounds.{levelNumber, levelFirst, markSpan, levelSpan, boundWord, reached, boundFits, boundsFit, pairsBounded, Tests}
+use Rattle.table_check.specs.Bounds.{levelNumber, levelFirst, markSpan, levelSpan, boundWord, reached, pairFits, boundsFit, Tests}
 use Rattle.table_check.specs.Shapes.{paired}
 use Rattle.table_check.proofs.GoodLevels.{asks, blank-parts, range-rises, no-value, level-stands, levelWord, word-small, words-fit}
 
@@ -111,6 +111,13 @@ module _ (v : Level) (x : ℕ) (small : x < 4294967296) where
 
 -- ---- the four levels
 
+-- the two levels of a pair
+first-of : (x y : ℕ) → x < 4294967296 → (x + 4294967296 * y) % 4294967296 ≡ x
+first-of x y h = omega arith
+
+second-of : (x y : ℕ) → x < 4294967296 → (x + 4294967296 * y) / 4294967296 ≡ y
+second-of x y h = omega arith
+
 module _ (r : Rule) (good : goodRule r ≡ true) (narrow : (l : ℕ) → l < 4 → (r .level l .type < 65536) × (r .level l .value < 65536) × (r .level l .tail < 65536))
     (word : ℕ → ℕ) (small : (l : ℕ) → word l < 4294967296)
   where
@@ -126,13 +133,35 @@ module _ (r : Rule) (good : goodRule r ≡ true) (narrow : (l : ℕ) → l < 4 �
         go true e = used-bound v (word l) (small l) e (narrow l h)
         go false e = blank-bound v (word l) (small l) e
 
-    bounds-fit : (bounds : List ℕ) (i : ℕ) → ((n : ℕ) → n < 8 → getD bounds (8 * i + n) 0 ≡ boundWord r n)
-        → boundsFit bounds (levelNumber (word 0)) (levelNumber (word 1)) (levelNumber (word 2)) (levelNumber (word 3)) i ≡ allBelow 4 (asks r word)
-    unfolding boundsFit allBelow boundWord
-    bounds-fit bounds i has = ap₂ _&&_ (ap₂ _&&_ (ap₂ _&&_ (at 0 (omega arith) refl refl) (at 1 (omega arith) refl refl)) (at 2 (omega arith) refl refl)) (at 3 (omega arith) refl refl)
-      where
-        at : (l : ℕ) → l < 4 → boundWord r l ≡ levelFirst r l → boundWord r (l + 4) ≡ levelSpan r l → boundFits bounds i l (levelNumber (word l)) ≡ asks r word l
-        at l h first span = rw (has l (omega arith), has (l + 4) (omega arith), first, span) (level-bound l h)
+    module _ (bounds : List ℕ) (i : ℕ) (has : (n : ℕ) → n < 8 → getD bounds (8 * i + n) 0 ≡ boundWord r n) where
+      first-at : (k l : ℕ) → k ≡ 8 * i + l → l < 4 → getD bounds k 0 ≡ levelFirst r l
+      unfolding boundWord
+      first-at k l e h = ap (λ (n : ℕ). getD bounds n 0) e ∙ has l (omega arith) ∙ rw (lt-ltb l 4 h)
+
+      span-at : (k l : ℕ) → k ≡ 8 * i + (l + 4) → l < 4 → getD bounds k 0 ≡ levelSpan r l
+      unfolding boundWord
+      span-at k l e h =
+          let back : l + 4 - 4 ≡ l = omega arith in
+          ap (λ (n : ℕ). getD bounds n 0) e ∙ has (l + 4) (omega arith) ∙ rw (le-ltb (l + 4) 4 (omega arith), back)
+
+      pair-bound : (at l : ℕ) → at ≡ 8 * i + l → l + 1 < 4 → pairFits bounds at (paired word l) ≡ asks r word l && asks r word (l + 1)
+      unfolding pairFits
+      pair-bound at l e h =
+          rw (
+            first-of (word l) (word (l + 1)) (small l),
+            second-of (word l) (word (l + 1)) (small l),
+            first-at at l e (omega arith),
+            span-at (at + 4) l (omega arith) (omega arith),
+            first-at (at + 1) (l + 1) (omega arith) h,
+            span-at (at + 1 + 4) (l + 1) (omega arith) h,
+          )
+          (ap₂ _&&_ (level-bound l (omega arith)) (level-bound (l + 1) h))
+
+      bounds-fit : boundsFit bounds (paired word 0) (paired word 2) i ≡ allBelow 4 (asks r word)
+      unfolding boundsFit allBelow
+      bounds-fit =
+          ap₂ _&&_ (pair-bound (8 * i) 0 (omega arith) (omega arith)) (pair-bound (8 * i + 2) 2 (omega arith) (omega arith))
+          ∙ sym (and-assoc (asks r word 0 && asks r word 1) (asks r word 2) (asks r word 3))
 
 -- ---- how far the last number of a level lies behind the first
 
@@ -159,24 +188,14 @@ module _ (r : Rule) (l : ℕ) where
 
 -- ---- a record beside the bounds of a policy
 
--- the two levels of a pair
-first-of : (x y : ℕ) → x < 4294967296 → (x + 4294967296 * y) % 4294967296 ≡ x
-first-of x y h = omega arith
-
-second-of : (x y : ℕ) → x < 4294967296 → (x + 4294967296 * y) / 4294967296 ≡ y
-second-of x y h = omega arith
-
 -- a good request lies within the bounds of just the rules that it fits
 pub bounded : (p : Policy) (rules : ℕ) (shapes bounds : List ℕ) → Tests p rules shapes bounds → length bounds ≡ 256
     → (s : List ℕ) (at : ℕ) → ((j : ℕ) → Byte (getD s j 0)) → goodRequest (part s at 28) ≡ true
-    → (i : ℕ) → i < rules → pairsBounded bounds (paired (levelWord s at) 0) (paired (levelWord s at) 2) i ≡ fits (p .rule i) (part s at 28)
+    → (i : ℕ) → i < rules → boundsFit bounds (paired (levelWord s at) 0) (paired (levelWord s at) 2) i ≡ fits (p .rule i) (part s at 28)
 bounded p rules shapes bounds of whole s at bytes request i h =
     let shaped = of .shaped in
-    let small = word-small s at bytes in
-    let word = levelWord s at in
-    rw (first-of (word 0) (word 1) (small 0), second-of (word 0) (word 1) (small 0), first-of (word 2) (word 3) (small 2), second-of (word 2) (word 3) (small 2))
-    (bounds-fit (p .rule i) (shaped .good i h) (shaped .narrow i) (levelWord s at) small bounds i has
-    ∙ words-fit s at bytes (p .rule i) (shaped .good i h) request)
+    bounds-fit (p .rule i) (shaped .good i h) (shaped .narrow i) (levelWord s at) (word-small s at bytes) bounds i has
+    ∙ words-fit s at bytes (p .rule i) (shaped .good i h) request
   where
     has : (n : ℕ) → n < 8 → getD bounds (8 * i + n) 0 ≡ boundWord (p .rule i) n
     has n b =

@@ -18,7 +18,7 @@ use Rattle.format.specs.Policy.{Policy}
 use Rattle.format.specs.Table.{goodMarks, goodRecord}
 use Rattle.format.specs.Records.{recordFrom}
 use Rattle.table_check.specs.Shapes.{paired, shapeFits, marksWithin, marksPass}
-use Rattle.table_check.specs.Bounds.{pairsBounded, Tests}
+use Rattle.table_check.specs.Bounds.{boundsFit, Tests}
 use Rattle.table_check.proofs.GoodLevels.{levelWord}
 use Rattle.table_check.proofs.Fitting.{shaped}
 use Rattle.table_check.proofs.Bounded.{bounded}
@@ -99,6 +99,6 @@ module _ (p : Policy) (rules : ℕ) (shapes bounds : List ℕ) (of : Tests p rul
         marks-same p rules (of .shaped .count) s at within shape (λ i h. shaped p rules shapes (of .shaped) s at bytes request i h (of .unbounded absent i h))
 
     -- and with a range the bounds do
-    pub by-bounds : length bounds ≡ 256 → marksPass (pairsBounded bounds (levelsAt s at 0) (levelsAt s at 2)) (u32At s (at + 28)) ≡ goodMarks p (recordFrom s at)
+    pub by-bounds : length bounds ≡ 256 → marksPass (boundsFit bounds (levelsAt s at 0) (levelsAt s at 2)) (u32At s (at + 28)) ≡ goodMarks p (recordFrom s at)
     by-bounds whole =
-        marks-same p rules (of .shaped .count) s at within (pairsBounded bounds (levelsAt s at 0) (levelsAt s at 2)) (bounded p rules shapes bounds of whole s at bytes request)
+        marks-same p rules (of .shaped .count) s at within (boundsFit bounds (levelsAt s at 0) (levelsAt s at 2)) (bounded p rules shapes bounds of whole s at bytes request)

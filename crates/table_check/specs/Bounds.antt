@@ -48,17 +48,15 @@ mostBounds = boundNumbers * mostRules
 unfoldable pub reached : ℕ → ℕ → ℕ → Bool
 reached number first span = leb ((number + (4294967296 - first)) % 4294967296) span
 
--- the four levels of a context, as numbers, lie within the bounds of rule i
-abbrev pub boundFits : List ℕ → ℕ → ℕ → ℕ → Bool
-boundFits bounds i l number = reached number (getD bounds (boundNumbers * i + l) 0) (getD bounds (boundNumbers * i + (l + mostLevels)) 0)
+-- two levels of a context, as words in one number, lie within the bounds of two levels, the first of which stand at a place
+unfoldable pub pairFits : List ℕ → ℕ → ℕ → Bool
+pairFits bounds at pair =
+    reached (levelNumber (pair % 4294967296)) (getD bounds at 0) (getD bounds (at + mostLevels) 0)
+    && reached (levelNumber (pair / 4294967296)) (getD bounds (at + 1) 0) (getD bounds (at + 1 + mostLevels) 0)
 
-unfoldable pub boundsFit : List ℕ → ℕ → ℕ → ℕ → ℕ → ℕ → Bool
-boundsFit bounds a b c d i = boundFits bounds i 0 a && boundFits bounds i 1 b && boundFits bounds i 2 c && boundFits bounds i 3 d
-
--- so two levels in each of two numbers, as words
-abbrev pub pairsBounded : List ℕ → ℕ → ℕ → ℕ → Bool
-pairsBounded bounds low high =
-    boundsFit bounds (levelNumber (low % 4294967296)) (levelNumber (low / 4294967296)) (levelNumber (high % 4294967296)) (levelNumber (high / 4294967296))
+-- the levels 0 and 1 of a context, and 2 and 3, lie within the bounds of rule i
+unfoldable pub boundsFit : List ℕ → ℕ → ℕ → ℕ → Bool
+boundsFit bounds low high i = pairFits bounds (boundNumbers * i) low && pairFits bounds (boundNumbers * i + 2) high
 
 -- ---- what the check of a table has of the rules: their shapes; and their bounds, or none if no rule has a range
 

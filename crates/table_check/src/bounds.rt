@@ -2,14 +2,14 @@
 ghost use mathlib.Core.Path.{_≡_};
 ghost use mathlib.Core.Bool.{true};
 ghost use mathlib.Core.Option.{none};
-ghost use Prim.Native.Nat.{ℕ, _*_, _/_, _%_, _<_};
+ghost use Prim.Native.Nat.{ℕ, _+_, _*_, _/_, _%_, _<_};
 ghost use lib.ListN.{length, getD};
 ghost use Rattle.words.specs.Lists.{allBelow};
 ghost use Rattle.format.specs.Layout.{blockBytes, mostLevels, mostRules};
 ghost use Rattle.format.specs.Rule.{ruleAt, goodRule};
 ghost use Rattle.format.specs.Policy.{policyFault, policyOf, ruleCount};
 ghost use Rattle.table_check.specs.Shapes.{plain};
-ghost use Rattle.table_check.specs.Bounds.{levelFirst, levelSpan, boundNumbers, boundWord, mostBounds, reached, boundsFit};
+ghost use Rattle.table_check.specs.Bounds.{levelNumber, levelFirst, levelSpan, boundNumbers, boundWord, mostBounds, reached, pairFits, boundsFit};
 use fields::field::u16_at;
 use fields::field::wide;
 use fields::layout::BLOCK_BYTES;
@@ -115,14 +115,29 @@ fn reaches(number: u32, first: u32, span: u32) -> bool
     wrapping_sub_u32(number, first) <= span
 }
 
-// The four levels of a context, as numbers, lie within the bounds of the rule of an index.
-pub fn bounds_fit(bounds: &[u32], a: u32, b: u32, c: u32, d: u32, i: u32) -> bool
+// The word of a context's level as one number that has the type as its high half.
+fn level_number(word: u32) -> u32
+    ensures { λ r. ⌜ r ≡ levelNumber word ⌝ }
+{
+    word / 65536 + 65536 * (word % 65536)
+}
+
+// Two levels of a context, two words in one number, lie within the bounds of two levels that begin at a place.
+fn pair_fits(bounds: &[u32], at: usize, pair: u64) -> bool
+    requires { ⌜ at + 1 + mostLevels < length (now bounds) ⌝ }
+    ensures { λ r. ⌜ r ≡ pairFits (now (bounds .entry)) at pair ⌝ }
+{
+    let first = level_number((pair % 4294967296) as u32);
+    let second = level_number((pair / 4294967296) as u32);
+    reaches(first, bounds[at], bounds[at + MOST_LEVELS])
+        & reaches(second, bounds[at + 1], bounds[at + 1 + MOST_LEVELS])
+}
+
+// The levels of a context, two in each number, lie within the bounds of the rule of an index.
+pub fn bounds_fit(bounds: &[u32], low: u64, high: u64, i: u32) -> bool
     requires { ⌜ (length (now bounds) ≡ mostBounds) × (i < mostRules) ⌝ }
-    ensures { λ r. ⌜ r ≡ boundsFit (now (bounds .entry)) a b c d i ⌝ }
+    ensures { λ r. ⌜ r ≡ boundsFit (now (bounds .entry)) low high i ⌝ }
 {
     let at = NUMBERS * (i as usize);
-    reaches(a, bounds[at], bounds[at + 4])
-        & reaches(b, bounds[at + 1], bounds[at + 5])
-        & reaches(c, bounds[at + 2], bounds[at + 6])
-        & reaches(d, bounds[at + 3], bounds[at + 7])
+    pair_fits(bounds, at, low) & pair_fits(bounds, at + 2, high)
 }

@@ -10,7 +10,7 @@ ghost use Rattle.format.specs.Request.{goodRequest};
 ghost use Rattle.format.specs.Table.{goodMarks, goodRecord};
 ghost use Rattle.format.specs.Records.{recordFrom};
 ghost use Rattle.table_check.specs.Shapes.{shapeFits, marksWithin, marksPass};
-ghost use Rattle.table_check.specs.Bounds.{levelNumber, mostBounds, boundsFit, pairsBounded, Tests};
+ghost use Rattle.table_check.specs.Bounds.{mostBounds, boundsFit, Tests};
 use crate::bounds::BOUNDS;
 use crate::bounds::bounds_fit;
 use crate::shapes::SHAPES;
@@ -55,41 +55,19 @@ fn marks_shaped(shapes: &[u64; SHAPES], low: u64, high: u64, marks: RuleSet) -> 
     true
 }
 
-// The word of a context's level as one number that has the type as its high half.
-fn level_number(word: u32) -> u32
-    ensures { λ r. ⌜ r ≡ levelNumber word ⌝ }
-{
-    word / 65536 + 65536 * (word % 65536)
-}
-
-// The marks that are set, from the lowest on, by the bounds of their rules.
-fn marks_bounded(bounds: &[u32], a: u32, b: u32, c: u32, d: u32, marks: RuleSet) -> bool
+// The same by their bounds.
+fn marks_bounded(bounds: &[u32], low: u64, high: u64, marks: RuleSet) -> bool
     requires { ⌜ length (now bounds) ≡ mostBounds ⌝ }
-    ensures { λ r. ⌜ r ≡ marksPass (boundsFit (now (bounds .entry)) a b c d) (marks .0) ⌝ }
+    ensures { λ r. ⌜ r ≡ marksPass (boundsFit (now (bounds .entry)) low high) (marks .0) ⌝ }
 {
     let mut rest = marks.0;
     while rest != 0 {
-        if !bounds_fit(bounds, a, b, c, d, u32::trailing_zeros(rest)) {
+        if !bounds_fit(bounds, low, high, u32::trailing_zeros(rest)) {
             return false;
         }
         rest = rest & (rest - 1);
     }
     true
-}
-
-// The same, with the words of two levels in each number.
-fn pairs_bounded(bounds: &[u32], low: u64, high: u64, marks: RuleSet) -> bool
-    requires { ⌜ length (now bounds) ≡ mostBounds ⌝ }
-    ensures { λ r. ⌜ r ≡ marksPass (pairsBounded (now (bounds .entry)) low high) (marks .0) ⌝ }
-{
-    marks_bounded(
-        bounds,
-        level_number((low % 4294967296) as u32),
-        level_number((low / 4294967296) as u32),
-        level_number((high % 4294967296) as u32),
-        level_number((high / 4294967296) as u32),
-        marks,
-    )
 }
 
 // The marks of a record whose request is good: by the bounds of the rules if there are any, which is where the policy has a range, and else by their
@@ -105,7 +83,7 @@ fn good_marks(shapes: &[u64; SHAPES], bounds: &[u32], rules: u32, s: &[u8], at: 
     let low = two_levels(s, at + CONTEXT_AT);
     let high = two_levels(s, at + THIRD_LEVEL_AT);
     if bounds.len() == BOUNDS {
-        return pairs_bounded(bounds, low, high, set);
+        return marks_bounded(bounds, low, high, set);
     }
     marks_shaped(shapes, low, high, set)
 }

@@ -1,5 +1,9 @@
 -- `matching::fits::level_fits` meets its contract.
 -- Assumes nothing.
+use Prim.Native.Nat.{ℕ, _%_}
+use mathlib.Core.Path.{ap, ap₂}
+use mathlib.Core.Bool.{_&&_}
+use lib.Dec.{eqb}
 use borrow.Author.Needs.{needs}
 use Rattle.format.specs.Fits.{levelFits}
 use Rattle.matching.proofs.fits.level_fits.Statement.{statement}
@@ -19,7 +23,9 @@ value-fits-requires c κs = search needs
 
 returns : tie.Need-returns
 unfolding levelFits
-returns c = cc
+returns c =
+    let a = c .before .before .before .args in
+    ap₂ _&&_ (ap (λ (n : ℕ). eqb (a .level % 65536) n) (c .before .u16-at .ensures .0)) (c .value-fits .ensures)
 
 pub level-fits-spec : {M : Type 1} → statement M
 level-fits-spec =

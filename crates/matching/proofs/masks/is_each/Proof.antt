@@ -1,7 +1,11 @@
 -- `matching::masks::is_each` meets its contract: the rule's block stands in the policy.
 -- Assumes nothing.
-use Prim.Native.Nat.{_+_, _*_}
+use Prim.Native.Nat.{ℕ, _+_, _*_}
 use native.Mathlib.Omega.{arith}
+use mathlib.Core.Path.{ap}
+use mathlib.Core.Bool.{_&&_}
+use lib.ListN.{getD}
+use lib.Dec.{eqb, ltb}
 use Rattle.word_laws.proofs.Parts.{byteAt-part}
 use Rattle.format.specs.Rule.{ruleAt}
 use Rattle.format.specs.Policy.{policyOf}
@@ -46,7 +50,7 @@ returns c =
     let s = c .before .before .before .before in
     let a = s .args in
     rw (byteAt-part (a .policy .now) (512 * a .i) 512 8 (omega arith), byteAt-part (a .policy .now) (512 * a .i) 512 (18 + 8 * a .l) (omega (arith, s .pre .1)))
-    (cc)
+    (ap (λ (depth : ℕ). ltb (a .l) depth && eqb (getD (a .policy .now) (512 * a .i + (18 + 8 * a .l)) 0) 3) (c .before .wide .ensures .0))
 
 pub is-each-spec : {M : Type 1} → statement M
 is-each-spec =

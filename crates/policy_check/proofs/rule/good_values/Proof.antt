@@ -1,6 +1,6 @@
 -- `policy_check::rule::good_values` meets its contract.
 -- Assumes nothing.
-use mathlib.Core.Path.{sym}
+use mathlib.Core.Path.{refl, sym}
 use mathlib.Core.Bool.{or-false}
 use borrow.Author.Tests.{ne-eqb}
 use borrow.Author.Needs.{needs}
@@ -10,7 +10,7 @@ use Rattle.policy_check.proofs.rule.good_values.Tie as tie
 
 returns : tie.Need-returns
 unfolding goodMark
-returns c = rw (c .if1 .taken)
+returns c = rw (c .if1 .taken) refl
 
 good-mark-requires : tie.Need-good-mark-requires
 good-mark-requires c κs = search needs

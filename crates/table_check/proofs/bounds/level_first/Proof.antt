@@ -1,5 +1,7 @@
 -- `table_check::bounds::level_first` meets its contract.
 -- Assumes nothing.
+use Prim.Native.Nat.{ℕ, _+_, _*_}
+use mathlib.Core.Path.{ap₂}
 use borrow.Author.Needs.{needs}
 use Rattle.format.specs.Rule.{ruleAt}
 use Rattle.table_check.specs.Bounds.{levelFirst}
@@ -32,7 +34,7 @@ add-result c = search needs
 
 returns : tie.Need-returns
 unfolding levelFirst ruleAt
-returns c = cc
+returns c = ap₂ (λ (v t : ℕ). v + 65536 * t) (c .before .u16-at .ensures .0) (c .u16-at2 .ensures .0)
 
 pub level-first-spec : {M : Type 1} → statement M
 level-first-spec =

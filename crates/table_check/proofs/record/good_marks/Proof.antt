@@ -10,7 +10,7 @@ use borrow.Author.Needs.{needs}
 use Rattle.words.specs.Bytes.{u32At}
 use Rattle.word_laws.proofs.Bytes.{Byte}
 use Rattle.table_check.specs.Shapes.{shapeFits, marksWithin}
-use Rattle.table_check.specs.Bounds.{pairsBounded}
+use Rattle.table_check.specs.Bounds.{boundsFit}
 use Rattle.table_check.proofs.Marked.{marks-outside, levelsAt, paired-levels, pass-as, by-shapes, by-bounds}
 use Rattle.table_check.proofs.record.good_marks.Statement.{statement}
 use Rattle.table_check.proofs.record.good_marks.Tie as tie
@@ -59,8 +59,8 @@ add-two-levels-2 c = search needs
 two-levels-requires-2 : tie.Need-two-levels-requires-2
 two-levels-requires-2 c κs = search needs
 
-pairs-bounded-requires : tie.Need-pairs-bounded-requires
-pairs-bounded-requires c κs = search needs
+marks-bounded-requires : tie.Need-marks-bounded-requires
+marks-bounded-requires c κs = search needs
 
 returns-2 : tie.Need-returns-2
 returns-2 c =
@@ -68,8 +68,8 @@ returns-2 c =
     let passed = read .before .before in
     let a = call passed .args in
     λ p of request.
-    c .pairs-bounded .ensures
-    ∙ pass-as (pairsBounded (a .bounds .now)) _ _ _ _ _ _ (low-is read) (high-is read) (passed .before .before .marks .ensures)
+    c .marks-bounded .ensures
+    ∙ pass-as (boundsFit (a .bounds .now)) _ _ _ _ _ _ (low-is read) (high-is read) (passed .before .before .marks .ensures)
     ∙ by-bounds p (a .rules) (a .shapes .now) (a .bounds .now) of (a .s .now) (a .at) (bytes passed) request (within passed) (c .before .if2 .taken)
 
 marks-shaped-requires : tie.Need-marks-shaped-requires
@@ -96,7 +96,7 @@ good-marks-spec =
     two-levels-requires
     add-two-levels-2
     two-levels-requires-2
-    pairs-bounded-requires
+    marks-bounded-requires
     returns-2
     marks-shaped-requires
     returns-3)

@@ -12,17 +12,17 @@ use Rattle.table_check.proofs.record.marks_bounded.Statement.{statement
 use Rattle.table_check.proofs.record.marks_bounded.Tie as tie
 
 abbrev Inv-loop : tie.InvT-loop
-Inv-loop bounds a b c d rest₀ rest = Left (boundsFit bounds a b c d) rest₀ rest
+Inv-loop bounds low high rest₀ rest = Left (boundsFit bounds low high) rest₀ rest
 
 abbrev μ-loop : tie.MeasureT-loop
-μ-loop bounds a b c d rest₀ rest = rest
+μ-loop bounds low high rest₀ rest = rest
 
 -- what the function was called with, seen from the loop, and the test of a mark
 abbrev call : tie.At-loop Inv-loop μ-loop → tie.Start Inv-loop μ-loop
 call c = c .before .before
 
 abbrev test : tie.At-loop Inv-loop μ-loop → ℕ → Bool
-test c = let a = call c .args in boundsFit (a .bounds .now) (a .a) (a .b) (a .c) (a .d)
+test c = let a = call c .args in boundsFit (a .bounds .now) (a .low) (a .high)
 
 loop-holds : tie.Need-loop-holds Inv-loop μ-loop
 loop-holds c = (omega arith, refl)
