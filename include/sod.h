@@ -4,9 +4,9 @@
  * One person adjusts an instrument, another checks it, however many visits lie between the two.
  * The engine is lent a duty policy and a table of earlier grants, takes one request, grants it or
  * refuses it by number, and brings the table up to date. A preview tells beforehand what a request
- * would get. The engine has no state of its own, allocates nothing and opens nothing: all that it
- * knows is in the bytes that it is lent. Of its surroundings it needs `memset` and a stack, nothing
- * else.
+ * would get. A closing removes all records of a context, such as a depot that shuts. The engine has
+ * no state of its own, allocates nothing and opens nothing: all that it knows is in the bytes that it
+ * is lent. Of its surroundings it needs `memset` and a stack, nothing else.
  *
  * docs/GUIDE.md tells what a policy means, and what to know before a grant is relied on: separation
  * can be lost outside the engine (a context with its levels in another order, two copies of a table)
@@ -26,12 +26,12 @@
  *
  *   - Every pointer with its length names memory that is there: readable, and for a `uint8_t *`
  *     (not const) writable too. Length 0 with any pointer, NULL too, is fine and gets its number.
- *   - A table that is written to (sod_fresh_table, sod_decide) overlaps neither policy nor request.
- *     What is only read (every `const uint8_t *`) may overlap.
+ *   - A table that is written to (sod_fresh_table, sod_decide, sod_close) overlaps nothing else that
+ *     is lent. What is only read (every `const uint8_t *`) may overlap.
  *   - While a call that writes to a table is at work, no other thread reads or writes that table;
  *     and while any call is at work, no thread writes what it only reads. So different tables may be
  *     decided on at the same time under one policy, and any number of threads may check and preview
- *     one table at the same time, as long as none decides on it.
+ *     one table at the same time, as long as none decides on it or closes a context in it.
  *   - No alignment is asked.
  *   - SOD_STACK bytes of stack are free for each call, whatever the bytes and lengths.
  *
@@ -89,6 +89,8 @@
  *     10-11    target, from 1
  *     12-27    four context levels of 4: type (2), value (2), both from 1; used levels come first,
  *              the others are zero. No level is the whole business.
+ *
+ * A context that is to be closed is 16 bytes: four levels, as in bytes 12 to 27 of a request.
  */
 #ifndef SOD_H
 #define SOD_H
@@ -97,7 +99,7 @@
 #include <stdint.h>
 
 /* The version of this interface. */
-#define SOD_VERSION "0.3.0"
+#define SOD_VERSION "0.4.0"
 
 /* Whoever drops a reply is warned: a refusal that nobody reads is a step taken all the same. */
 #if defined(__cplusplus) && __cplusplus >= 201703L
@@ -121,6 +123,7 @@ enum {
     SOD_BLOCK = 512,             /* bytes in a block */
     SOD_REQUEST = 28,            /* bytes in a request */
     SOD_RECORD = 32,             /* bytes in a record */
+    SOD_CONTEXT = 16,            /* bytes in a context */
     SOD_RECORDS_PER_BLOCK = 15,
     SOD_MOST_POLICY_BLOCKS = 64,
     SOD_MOST_TABLE_BLOCKS = 128
@@ -140,11 +143,12 @@ enum {
  *                        held (records in the table now)
  *     sod_preview        recorded, removed, held, as sod_decide would return them: held is how many
  *                        records the table would have then
+ *     sod_close          removed (records of the context, which are gone), 0, 0
  *
  * Any other number is a refusal; first and second are its places, third is 0. The first number that
- * applies is given: those of the policy, then of the table, then of the request, then of the
- * judgement; within policy and table block by block, and within a block upwards. Blocks count from
- * 0; rules, exclusions, entries and records from 1.
+ * applies is given: those of the policy, then of the table, then of the request or the context, then
+ * of the judgement; within policy and table block by block, and within a block upwards. Blocks count
+ * from 0; rules, exclusions, entries and records from 1.
  */
 typedef struct {
     uint32_t number, first, second, third;
@@ -169,6 +173,10 @@ enum {
     /* The request. 0, 0. */
     SOD_REQUEST_LENGTH = 21,      /* not 28 bytes */
     SOD_REQUEST_FIELD = 22,       /* a field is wrong */
+
+    /* The context, in sod_close: the same two numbers. 0, 0. */
+    SOD_CONTEXT_LENGTH = 21,      /* not 16 bytes */
+    SOD_CONTEXT_FIELD = 22,       /* a level is wrong, or follows one that is not used */
 
     /* The judgement. 0, 0 for 31 and 34. */
     SOD_NOT_PERMITTED = 31,       /* no active role has the permission */
@@ -219,6 +227,22 @@ SOD_NODISCARD
 sod_reply sod_preview(const uint8_t *policy, size_t policy_len,
                       const uint8_t *table, size_t table_len,
                       const uint8_t *request, size_t request_len);
+
+/*
+ * Closes a context: removes every record whose context begins with these levels, in type and value,
+ * whatever levels it has beyond them. A context of no level names every record. The other records
+ * keep their order and their marks. Where there is nothing to remove it is accepted too, with 0.
+ * Refused by 1 to 6, 11 to 15, 21, 22; then the table is as it was.
+ *
+ * What was removed no longer counts for anyone. Of a run that goes beyond the context the rest still
+ * counts, even if its first step is gone; a run with nothing left has ended, as after a last step.
+ * Nothing is forbidden: later requests in the context are judged as ever. Store the table, as after
+ * a grant.
+ */
+SOD_NODISCARD
+sod_reply sod_close(const uint8_t *policy, size_t policy_len,
+                    uint8_t *table, size_t table_len,
+                    const uint8_t *context, size_t context_len);
 
 #ifdef __cplusplus
 }

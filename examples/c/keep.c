@@ -4,6 +4,7 @@
  *     keep FOLDER fresh BLOCKS          makes FOLDER/table for FOLDER/policy, if there is none
  *     keep FOLDER < REQUESTS            decides requests of 28 bytes, a line for each
  *     keep FOLDER preview < REQUESTS    tells what each would get now, and writes nothing
+ *     keep FOLDER close < CONTEXTS      closes contexts of 16 bytes, a line for each
  *
  * examples/python/keep.py does the same with the same files; both may be at work on one folder.
  */
@@ -53,7 +54,7 @@ static void store(int folder, size_t length)
 
 /*
  * This program alone is at the table until the lock is closed, be it by a crash. The lock is a file of its own:
- * the table's file is another one after each grant.
+ * the table's file is another one each time that it is stored.
  */
 static int lock_table(int folder)
 {
@@ -76,15 +77,27 @@ static sod_reply make_fresh(int folder, size_t policy_len, size_t blocks)
     return reply;
 }
 
-static sod_reply decide(int folder, size_t policy_len, const uint8_t *request, size_t request_len)
+typedef sod_reply writing_call(const uint8_t *, size_t, uint8_t *, size_t, const uint8_t *, size_t);
+
+static sod_reply stored(int folder, size_t policy_len, writing_call *call, const uint8_t *asked, size_t asked_len)
 {
     int lock = lock_table(folder);
     size_t length = load(folder, "table", table, sizeof table);
-    sod_reply reply = sod_decide(policy, policy_len, table, length, request, request_len);
+    sod_reply reply = call(policy, policy_len, table, length, asked, asked_len);
     if (reply.number == 0)
         store(folder, length);
     close(lock);
     return reply;
+}
+
+static sod_reply decide(int folder, size_t policy_len, const uint8_t *request, size_t request_len)
+{
+    return stored(folder, policy_len, sod_decide, request, request_len);
+}
+
+static sod_reply close_context(int folder, size_t policy_len, const uint8_t *context, size_t context_len)
+{
+    return stored(folder, policy_len, sod_close, context, context_len);
 }
 
 /* Without the lock: the table's file is never altered, only replaced, so that what is read is whole. */
@@ -94,18 +107,20 @@ static sod_reply preview(int folder, size_t policy_len, const uint8_t *request, 
     return sod_preview(policy, policy_len, table, length, request, request_len);
 }
 
-typedef sod_reply answer(int folder, size_t policy_len, const uint8_t *request, size_t request_len);
+typedef sod_reply answer(int folder, size_t policy_len, const uint8_t *asked, size_t asked_len);
 
 static void answer_all(int folder, size_t policy_len, answer *call, const char *would)
 {
-    uint8_t request[SOD_REQUEST];
-    size_t length;
-    while ((length = fread(request, 1, sizeof request, stdin)) > 0) {
-        sod_reply reply = call(folder, policy_len, request, length);
-        if (reply.number == 0) /* a grant is told only once it is stored */
-            printf("%sgrant %u %u %u\n", would, reply.first, reply.second, reply.third);
-        else
+    uint8_t asked[SOD_REQUEST];
+    size_t room = call == close_context ? SOD_CONTEXT : SOD_REQUEST, length;
+    while ((length = fread(asked, 1, room, stdin)) > 0) {
+        sod_reply reply = call(folder, policy_len, asked, length);
+        if (reply.number != 0)
             printf("%srefuse %u %u %u\n", would, reply.number, reply.first, reply.second);
+        else if (call == close_context)
+            printf("removed %u\n", reply.first);
+        else /* a grant is told only once it is stored */
+            printf("%sgrant %u %u %u\n", would, reply.first, reply.second, reply.third);
         fflush(stdout);
     }
 }
@@ -114,8 +129,9 @@ int main(int argc, char **argv)
 {
     int making = argc == 4 && strcmp(argv[2], "fresh") == 0;
     int previewing = argc == 3 && strcmp(argv[2], "preview") == 0;
+    int closing = argc == 3 && strcmp(argv[2], "close") == 0;
     errno = EINVAL;
-    need(argc == 2 || making || previewing, "keep FOLDER [fresh BLOCKS | preview]");
+    need(argc == 2 || making || previewing || closing, "keep FOLDER [fresh BLOCKS | preview | close]");
     int folder = open(argv[1], O_RDONLY | O_DIRECTORY);
     need(folder >= 0, argv[1]);
     size_t policy_len = load(folder, "policy", policy, sizeof policy);
@@ -129,6 +145,6 @@ int main(int argc, char **argv)
     if (previewing)
         answer_all(folder, policy_len, preview, "would ");
     else
-        answer_all(folder, policy_len, decide, "");
+        answer_all(folder, policy_len, closing ? close_context : decide, "");
     return 0;
 }

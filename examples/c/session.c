@@ -3,7 +3,8 @@
  *
  *     gcc -Iinclude examples/c/session.c target/staticlib/libsod.a -o target/session && target/session
  *
- * With the word `preview` each line stands behind one that tells beforehand what it will be.
+ * With the word `preview` each line stands behind one that tells beforehand what it will be; with the word `close`
+ * depot 5 shuts after the fifteen lines.
  */
 #include <stdio.h>
 #include <string.h>
@@ -124,6 +125,17 @@ static void make_policy(uint8_t policy[3 * SOD_BLOCK])
 }
 
 /* job 0: the depot as a whole */
+static void make_context(uint8_t context[SOD_CONTEXT], unsigned depot, unsigned job)
+{
+    memset(context, 0, SOD_CONTEXT);
+    put16(context, DEPOT);
+    put16(context + 2, depot);
+    if (job != 0) {
+        put16(context + 4, JOB);
+        put16(context + 6, job);
+    }
+}
+
 struct asked {
     uint32_t user, roles;
     unsigned operation, depot, job;
@@ -131,17 +143,11 @@ struct asked {
 
 static void make_request(uint8_t request[SOD_REQUEST], const struct asked *asked)
 {
-    memset(request, 0, SOD_REQUEST);
     put32(request, asked->user);
     put32(request + 4, asked->roles);
     put16(request + 8, asked->operation);
     put16(request + 10, BENCH);
-    put16(request + 12, DEPOT);
-    put16(request + 14, asked->depot);
-    if (asked->job != 0) {
-        put16(request + 16, JOB);
-        put16(request + 18, asked->job);
-    }
+    make_context(request + 12, asked->depot, asked->job);
 }
 
 #define ROLE(k) (1u << ((k) - 1))
@@ -179,10 +185,29 @@ static void print_reply(size_t ordinal, const char *would, sod_reply reply)
         printf("%zu %srefuse %u %u %u\n", ordinal, would, reply.number, reply.first, reply.second);
 }
 
+/* Nothing is on record in depot 6. Depot 5 is closed, its job 92 first. */
+static void shut(const uint8_t policy[3 * SOD_BLOCK], uint8_t table[SOD_BLOCK])
+{
+    static const unsigned closed[][2] = {{6, 0}, {5, 92}, {5, 0}};
+    uint8_t context[SOD_CONTEXT], request[SOD_REQUEST];
+    size_t ordinal = sizeof session / sizeof *session + 1;
+
+    for (size_t i = 0; i < sizeof closed / sizeof *closed; i++, ordinal++) {
+        make_context(context, closed[i][0], closed[i][1]);
+        sod_reply reply = sod_close(policy, 3 * SOD_BLOCK, table, SOD_BLOCK, context, sizeof context);
+        if (!refused("context", reply))
+            printf("%zu removed %u\n", ordinal, reply.first);
+    }
+    /* Line 13 again. Nothing is forbidden by a closing, and the count that it was refused for has ended with it. */
+    make_request(request, &session[12]);
+    print_reply(ordinal, "", sod_decide(policy, 3 * SOD_BLOCK, table, SOD_BLOCK, request, sizeof request));
+}
+
 int main(int argc, char **argv)
 {
     uint8_t policy[3 * SOD_BLOCK], table[SOD_BLOCK], request[SOD_REQUEST];
     int previewing = argc == 2 && strcmp(argv[1], "preview") == 0;
+    int closing = argc == 2 && strcmp(argv[1], "close") == 0;
 
     make_policy(policy);
     if (refused("policy", sod_check_policy(policy, sizeof policy)) ||
@@ -197,5 +222,7 @@ int main(int argc, char **argv)
         print_reply(i + 1, "", sod_decide(policy, sizeof policy, table, sizeof table,
                                           request, sizeof request));
     }
+    if (closing)
+        shut(policy, table);
     return refused("table", sod_check_table(policy, sizeof policy, table, sizeof table));
 }

@@ -58,11 +58,15 @@ def policy(rules, permissions):
                     for i, (kind, body) in enumerate(blocks))
 
 
-def request(user, active, privilege, context=()):
-    """This user, active in these roles, asks to do this in this context."""
+def context(levels):
+    """Pairs (type, value) as bytes: the end of a request, or what is closed."""
+    return b"".join(struct.pack("<HH", *one) for one in levels).ljust(16, b"\0")
+
+
+def request(user, active, privilege, levels=()):
+    """This user, active in these roles, asks to do this in the context of these levels."""
     mask = sum(1 << role - 1 for role in set(active))
-    levels = b"".join(struct.pack("<HH", *one) for one in context)
-    return struct.pack("<IIHH", user, mask, *privilege) + levels.ljust(16, b"\0")
+    return struct.pack("<IIHH", user, mask, *privilege) + context(levels)
 
 
 def members(word):
@@ -75,8 +79,8 @@ def records(table):
         held, = struct.unpack_from("<H", table, start + 8)
         for at in range(start + 24, start + 24 + 32 * held, 32):
             user, active, operation, target, *levels, marks = struct.unpack_from("<IIHH8HI", table, at)
-            context = [pair for pair in zip(levels[::2], levels[1::2]) if pair[0]]
-            yield Record(user, members(active), (operation, target), context, members(marks))
+            used = [pair for pair in zip(levels[::2], levels[1::2]) if pair[0]]
+            yield Record(user, members(active), (operation, target), used, members(marks))
 
 
 def larger(table, blocks):

@@ -3,6 +3,7 @@
     python3 examples/python/keep.py FOLDER fresh BLOCKS          makes FOLDER/table for FOLDER/policy, if there is none
     python3 examples/python/keep.py FOLDER < REQUESTS            decides requests of 28 bytes, a line for each
     python3 examples/python/keep.py FOLDER preview < REQUESTS    tells what each would get now, and writes nothing
+    python3 examples/python/keep.py FOLDER close < CONTEXTS      closes contexts of 16 bytes, a line for each
 
 examples/c/keep.c does the same with the same files; both may be at work on one folder.
 """
@@ -17,7 +18,7 @@ import sod
 
 @contextlib.contextmanager
 def locked(folder):
-    """The lock is a file of its own: the table's file is another one after each grant."""
+    """The lock is a file of its own: the table's file is another one each time that it is stored."""
     with open(folder / "lock", "a") as lock:
         fcntl.flock(lock, fcntl.LOCK_EX)    # let go where the file is closed, in a crash too
         yield
@@ -43,14 +44,22 @@ def fresh(folder, blocks):
         store(folder, sod.fresh_table((folder / "policy").read_bytes(), blocks))
 
 
-def decide(folder, request):
-    """A Grant, told only once it is stored; or Refused is raised."""
+def stored(folder, call, asked):
+    """What the call returns, told only once the table is stored; or Refused is raised."""
     with locked(folder):
         policy = (folder / "policy").read_bytes()
         table = bytearray((folder / "table").read_bytes())
-        grant = sod.decide(policy, table, request)
+        answer = call(policy, table, asked)
         store(folder, table)
-    return grant
+    return answer
+
+
+def decide(folder, request):
+    return stored(folder, sod.decide, request)
+
+
+def close(folder, context):
+    return stored(folder, sod.close, context)
 
 
 def preview(folder, request):
@@ -58,10 +67,10 @@ def preview(folder, request):
     return sod.preview((folder / "policy").read_bytes(), (folder / "table").read_bytes(), request)
 
 
-def answer_all(folder, call):
-    while request := sys.stdin.buffer.read(28):
+def answer_all(folder, call, length=28):
+    while asked := sys.stdin.buffer.read(length):
         try:
-            print(call(folder, request), flush=True)
+            print(call(folder, asked), flush=True)
         except sod.Refused as refusal:
             print(refusal, flush=True)
 
@@ -71,6 +80,8 @@ def main(folder, *words):
         answer_all(folder, decide)
     elif words == ("preview",):
         answer_all(folder, preview)
+    elif words == ("close",):
+        answer_all(folder, close, length=16)
     else:
         _, blocks = words
         fresh(folder, int(blocks))

@@ -2,6 +2,7 @@
 
     python3 examples/python/session.py
     python3 examples/python/session.py preview    each line behind one that tells beforehand what it will be
+    python3 examples/python/session.py close      the fifteen lines; then depot 5 shuts
 """
 import sys
 
@@ -47,11 +48,19 @@ SESSION = [images.request(*asked) for asked in [
 ]]
 
 
-def answer(call, table, request):
+def answer(call, table, asked):
     try:
-        return call(POLICY, table, request)
+        return call(POLICY, table, asked)
     except sod.Refused as refusal:
         return refusal
+
+
+def shut(table):
+    """Nothing is on record in depot 6. Depot 5 is closed, its job 92 first."""
+    for number, levels in enumerate([at(6), at(5, 92), at(5)], len(SESSION) + 1):
+        print(number, answer(sod.close, table, images.context(levels)))
+    # Line 13 again. Nothing is forbidden by a closing, and the count that it was refused for has ended with it.
+    print(number + 1, answer(sod.decide, table, SESSION[12]))
 
 
 def main(*words):
@@ -60,6 +69,8 @@ def main(*words):
         if words == ("preview",):    # for the bench, while the instrument is still boxed: nothing is recorded
             print(number, answer(sod.preview, table, request))
         print(number, answer(sod.decide, table, request))
+    if words == ("close",):
+        shut(table)
     assert sod.check_table(POLICY, table) == len(list(images.records(table)))
 
 

@@ -1,8 +1,8 @@
-"""The five calls of the engine, from Python. include/sod.h says what each promises.
+"""The six calls of the engine, from Python. include/sod.h says what each promises.
 
 It loads target/libsod.so, which README.md builds in one command; SOD_LIBRARY in the environment names
-another. A policy and a request are bytes. A table is a bytearray: the engine writes to it, and what cannot
-be written to is a TypeError before the engine is called. Where it is only checked or previewed, bytes will do.
+another. A policy, a request and a context are bytes. A table is a bytearray: the engine writes to it, and what
+cannot be written to is a TypeError before the engine is called. Where it is only checked or previewed, bytes will do.
 """
 import ctypes
 import os
@@ -23,6 +23,11 @@ class Preview(namedtuple("Preview", "recorded removed held")):
 
     def __str__(self):
         return "would grant {} {} {}".format(*self)
+
+
+class Closed(namedtuple("Closed", "removed")):
+    def __str__(self):
+        return "removed {}".format(*self)
 
 
 class Refused(Exception):
@@ -53,7 +58,7 @@ _READ = [ctypes.c_char_p, ctypes.c_size_t]                     # bytes alone fit
 _WRITE = [ctypes.POINTER(ctypes.c_uint8), ctypes.c_size_t]     # bytes do not
 for _name, _types in [("sod_check_policy", _READ), ("sod_check_table", _READ + _READ),
                       ("sod_fresh_table", _READ + _WRITE), ("sod_decide", _READ + _WRITE + _READ),
-                      ("sod_preview", _READ + _READ + _READ)]:
+                      ("sod_preview", _READ + _READ + _READ), ("sod_close", _READ + _WRITE + _READ)]:
     _function = getattr(_library, _name)
     _function.argtypes, _function.restype = _types, Reply
 
@@ -99,3 +104,10 @@ def preview(policy, table, request):
     reply = _library.sod_preview(policy, len(policy), table, len(table), request, len(request))
     reply = _accepted(reply, WouldBeRefused)
     return Preview(reply.first, reply.second, reply.third)
+
+
+def close(policy, table, context):
+    """Closed, and each record whose context begins with this one is gone; or Refused is raised, as by decide."""
+    reply = _accepted(_library.sod_close(policy, len(policy), _writable(table), len(table),
+                                         context, len(context)))
+    return Closed(reply.first)

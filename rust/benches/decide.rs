@@ -17,13 +17,17 @@
 //! tools/places can put them where it likes.
 //!
 //! Each decision is then measured as a preview, with the decision itself in the same rounds; a policy of
-//! ranges, with the same one of fixed values in the same rounds; and what a last step costs for each block
-//! that it touches ([`touched`]).
+//! ranges, with the same one of fixed values in the same rounds; closings, with the last step that removes
+//! the same records in the same rounds ([`closings`]); and what a last step costs for each block that it
+//! touches ([`touched`]).
 
 #[path = "../tests/support/chance.rs"]
 #[allow(dead_code)]
 mod chance;
+mod closings;
 mod earlier;
+#[path = "../tests/support/engine.rs"]
+mod engine;
 #[path = "../tests/independent/mod.rs"]
 mod independent;
 #[path = "../tests/support/plain.rs"]
@@ -31,6 +35,7 @@ mod plain;
 mod touched;
 
 use chance::Chance;
+use closings::Closings;
 use earlier::Earlier;
 use hastovimen::raw;
 use independent::images::*;
@@ -40,9 +45,10 @@ use std::time::Instant;
 use touched::Touched;
 
 fn main() {
-    let (typical, touched) = (Typical::new(), Touched::new());
+    let (typical, touched, closings) = (Typical::new(), Touched::new(), Closings::new());
     let mut workloads = typical.workloads();
     workloads.extend(touched.workloads());
+    workloads.extend(closings.workloads());
     workloads.extend(worst_workloads());
     // `cargo bench --offline -- WORD` measures only the workloads that have the word in their name.
     let word = std::env::args().skip(1).find(|a| !a.starts_with("--"));
@@ -53,6 +59,9 @@ fn main() {
         before,
         after: Earlier::load("SOD_AFTER"),
     });
+    if let Some(Beside::Earlier { before, .. }) = &before {
+        workloads.retain(|workload| workload.call != Call::Close || before.closes());
+    }
     println!("Median time of one call in microseconds; the last columns are ratios.\n");
     table(&workloads, &before);
     println!("\nPreviews, beside the engine's decision with the same answer.\n");
@@ -63,6 +72,10 @@ fn main() {
             "\nRanges at all four levels of 32 rules, beside fixed values on the same records.\n"
         );
         ranges();
+    }
+    if before.is_none() && word.as_ref().is_none_or(|word| "closings".contains(word)) {
+        println!("\nClosings, beside the last step that removes the same records.\n");
+        closings.table();
     }
     if word.as_ref().is_none_or(|word| "touched".contains(word)) {
         println!("\nBlocks touched: last steps on a full table of 128, and what a written block costs.\n");
@@ -195,6 +208,7 @@ enum Call {
     FreshTable,
     Decide,
     Preview,
+    Close,
 }
 
 /// What else is measured in the same rounds.
@@ -209,6 +223,8 @@ enum Beside {
     Decision,
     /// The engine's call where values are fixed.
     Fixed(Box<Workload>),
+    /// The engine's last step that removes the same records.
+    LastStep(Box<Workload>),
 }
 
 impl Beside {
@@ -217,6 +233,15 @@ impl Beside {
             Beside::Earlier { .. } => "before",
             Beside::Decision => "decide",
             Beside::Fixed(_) => "fixed",
+            Beside::LastStep(_) => "step",
+        }
+    }
+
+    /// Another call of the engine.
+    fn other(&self) -> Option<&Workload> {
+        match self {
+            Beside::Fixed(other) | Beside::LastStep(other) => Some(other),
+            Beside::Earlier { .. } | Beside::Decision => None,
         }
     }
 }
@@ -227,10 +252,11 @@ struct Workload {
     call: Call,
     policy: Vec<u8>,
     table: Vec<u8>,
+    /// A request; the context of a closing.
     request: Vec<u8>,
     /// What must come of it, so that the right thing is measured.
     expected: Reply,
-    /// How many blocks a decision must write, where that is what is measured.
+    /// How many blocks a decision or a closing must write, where that is what is measured.
     written: Option<u32>,
 }
 
@@ -248,8 +274,8 @@ impl Workload {
     /// Microseconds for engine, Rust, sums, and what stands beside them if there is something.
     fn measure(&self, beside: &Option<Beside>) -> [f64; 4] {
         self.agree();
-        if let Some(Beside::Fixed(fixed)) = beside {
-            fixed.agree();
+        if let Some(other) = beside.as_ref().and_then(Beside::other) {
+            other.agree();
         }
         let mut tables = self.copies();
         let mut times = [const { vec![] }; 4];
@@ -268,8 +294,8 @@ impl Workload {
                     self.time(&mut tables, |w, table| w.by_earlier(before, table))
                 }
                 Some(Beside::Decision) => self.time(&mut tables, |w, table| w.decided(table)),
-                Some(Beside::Fixed(fixed)) => {
-                    fixed.time(&mut tables, |w, table| w.by_engine(table))
+                Some(Beside::Fixed(other) | Beside::LastStep(other)) => {
+                    other.time(&mut tables, |w, table| w.by_engine(table))
                 }
             });
         }
@@ -301,6 +327,7 @@ impl Workload {
             Call::FreshTable => earlier.fresh_table(&self.policy, table),
             Call::Decide => earlier.decide(&self.policy, table, &self.request),
             Call::Preview => unreachable!("an earlier engine is not asked for it"),
+            Call::Close => earlier.close(&self.policy, table, &self.request),
         }
     }
 
@@ -315,6 +342,7 @@ impl Workload {
             Call::FreshTable => plain::count(raw::fresh_table(&self.policy, table)),
             Call::Decide => self.decided(table),
             Call::Preview => plain::preview(raw::preview(&self.policy, table, &self.request)),
+            Call::Close => engine::close(&self.policy, table, &self.request),
         }
     }
 
@@ -325,6 +353,7 @@ impl Workload {
             Call::FreshTable => quick::fresh_table(&self.policy, table),
             Call::Decide => quick::decide(&self.policy, table, &self.request),
             Call::Preview => quick::preview(&self.policy, table, &self.request),
+            Call::Close => quick::close(&self.policy, table, &self.request),
         }
     }
 
@@ -349,7 +378,7 @@ impl Workload {
             self.name
         );
         assert!(by_engine == by_rust, "{}: the tables differ", self.name);
-        if self.call == Call::Decide {
+        if matches!(self.call, Call::Decide | Call::Close) {
             self.agree_on_blocks(&by_engine);
         }
     }
@@ -360,9 +389,18 @@ impl Workload {
         let differing = blocks.filter(|(before, after)| before != after).count() as u32;
         let expected = self.written.unwrap_or(differing);
         let (mut by_probe, mut by_rust) = (self.table.clone(), self.table.clone());
-        let probed = probe::decide(&self.policy, &mut by_probe, &self.request) as u32;
-        let (_, rust) = quick::decide_counting(&self.policy, &mut by_rust, &self.request);
-        let told = [differing, probed, rust];
+        let (probed, (_, rust)) = if self.call == Call::Close {
+            (
+                probe::close(&self.policy, &mut by_probe, &self.request),
+                quick::close_counting(&self.policy, &mut by_rust, &self.request),
+            )
+        } else {
+            (
+                probe::decide(&self.policy, &mut by_probe, &self.request),
+                quick::decide_counting(&self.policy, &mut by_rust, &self.request),
+            )
+        };
+        let told = [differing, probed as u32, rust];
         assert_eq!(told, [expected; 3], "{}: blocks", self.name);
         assert!(by_probe == after, "{}: the probe's table", self.name);
     }

@@ -18,12 +18,13 @@ type CheckTable = unsafe extern "C" fn(*const u8, usize, *const u8, usize) -> Re
 type FreshTable = unsafe extern "C" fn(*const u8, usize, *mut u8, usize) -> Reply;
 type Decide = unsafe extern "C" fn(*const u8, usize, *mut u8, usize, *const u8, usize) -> Reply;
 
-/// The calls that every earlier engine has.
+/// The calls that every earlier engine has, and the closing, which it need not have.
 pub struct Earlier {
     check_policy: CheckPolicy,
     check_table: CheckTable,
     fresh_table: FreshTable,
     decide: Decide,
+    close: Option<Decide>,
 }
 
 impl Earlier {
@@ -35,12 +36,12 @@ impl Earlier {
         unsafe {
             let library = dlopen(path.as_ptr(), RTLD_NOW);
             assert!(!library.is_null(), "{file} cannot be loaded");
-            let find = |name: &CString| {
+            let find = |name: &str| {
+                let name = CString::new(name).expect("a name");
                 let found = dlsym(library, name.as_ptr());
-                assert!(!found.is_null(), "{file} has no {name:?}");
-                found
+                (!found.is_null()).then_some(found)
             };
-            let named = |name: &str| find(&CString::new(name).expect("a name"));
+            let named = |name| find(name).unwrap_or_else(|| panic!("{file} has no {name}"));
             Some(Earlier {
                 check_policy: std::mem::transmute::<*mut c_void, CheckPolicy>(named(
                     "sod_check_policy",
@@ -52,6 +53,8 @@ impl Earlier {
                     "sod_fresh_table",
                 )),
                 decide: std::mem::transmute::<*mut c_void, Decide>(named("sod_decide")),
+                close: find("sod_close")
+                    .map(|found| std::mem::transmute::<*mut c_void, Decide>(found)),
             })
         }
     }
@@ -75,5 +78,17 @@ impl Earlier {
         let (bytes, len) = (table.as_mut_ptr(), table.len());
         let (asked, asked_len) = (request.as_ptr(), request.len());
         unsafe { (self.decide)(policy.as_ptr(), policy.len(), bytes, len, asked, asked_len) }
+    }
+
+    /// Whether it has the closing.
+    pub fn closes(&self) -> bool {
+        self.close.is_some()
+    }
+
+    pub fn close(&self, policy: &[u8], table: &mut [u8], context: &[u8]) -> Reply {
+        let close = self.close.expect("it is asked only if it has the closing");
+        let (bytes, len) = (table.as_mut_ptr(), table.len());
+        let (lent, lent_len) = (context.as_ptr(), context.len());
+        unsafe { close(policy.as_ptr(), policy.len(), bytes, len, lent, lent_len) }
     }
 }

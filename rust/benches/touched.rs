@@ -128,7 +128,7 @@ fn other_depot(chance: &mut Chance) -> u16 {
 }
 
 /// Work on some job of a depot by some person, with the marks of the rules for jobs.
-fn work(chance: &mut Chance, depot: u16) -> Record {
+pub fn work(chance: &mut Chance, depot: u16) -> Record {
     let (role, operation) = chance.pick(&[(1, ADJUST), (2, CHECK), (4, PACK)]);
     let of_depot = if depot <= 5 { 1 << (2 + depot) } else { 0 };
     Record {

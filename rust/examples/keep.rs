@@ -3,11 +3,12 @@
 //!     keep FOLDER < requests
 //!
 //! The folder has the policy's image in `policy`; the table is `table`, made of four blocks the first
-//! time. Each line of the input is a request, such as `user 7 in role 1: 1 on 1 at 1=5, 2=90`; each
-//! line of the output is what it got, and a grant is printed only once the table is stored.
+//! time. Each line of the input is a request, such as `user 7 in role 1: 1 on 1 at 1=5, 2=90`, or a
+//! context that is to be closed, such as `close 1=5`; each line of the output is what it got, and
+//! nothing but a refusal is printed before the table is stored.
 //! Any number of these programs may run on one folder at the same time.
 
-use hastovimen::{Grant, Line, Policy, PolicyBuf, Refusal, Request};
+use hastovimen::{Context, Grant, Line, Policy, PolicyBuf, Refusal, Request, TableBuf};
 use std::error::Error;
 use std::fs::{self, File};
 use std::io::{self, BufRead, ErrorKind, Write};
@@ -27,6 +28,20 @@ impl Keeper {
 
     /// Decides a request. The outer error means that nothing is known to be stored: take no step.
     pub fn decide(&self, request: &Request) -> Result<Result<Grant, Refusal>, Box<dyn Error>> {
+        self.stored(|table| table.decide(request))
+    }
+
+    /// Closes a context: how many records were removed. An error means that nothing is known to be
+    /// stored.
+    pub fn close(&self, context: &Context) -> Result<u32, Box<dyn Error>> {
+        Ok(self.stored(|table| table.close(context))??)
+    }
+
+    /// What the call gives. What is accepted has been stored.
+    fn stored<T>(
+        &self,
+        call: impl FnOnce(&mut TableBuf) -> Result<T, Refusal>,
+    ) -> Result<Result<T, Refusal>, Box<dyn Error>> {
         // A file of its own is locked, for the table's is replaced by another one. It is free
         // again once `lock` is dropped, or the program ends, however it ends.
         let lock = File::create(self.folder.join("lock"))?;
@@ -36,11 +51,11 @@ impl Keeper {
             Err(error) if error.kind() == ErrorKind::NotFound => self.policy.new_table(4)?,
             Err(error) => return Err(error.into()),
         };
-        let decided = table.decide(request);
-        if decided.is_ok() {
+        let answer = call(&mut table);
+        if answer.is_ok() {
             self.store(table.image())?;
         }
-        Ok(decided)
+        Ok(answer)
     }
 
     /// At every moment `table` is the old image or the new one, whole, even if the power fails.
@@ -54,7 +69,7 @@ impl Keeper {
     }
 }
 
-/// Decides one request a line, and prints what each got.
+/// Decides one request a line, or closes a context, and prints what each got.
 pub fn keep(
     folder: &Path,
     input: impl BufRead,
@@ -62,7 +77,11 @@ pub fn keep(
 ) -> Result<(), Box<dyn Error>> {
     let keeper = Keeper::open(folder)?;
     for line in input.lines() {
-        writeln!(output, "{}", Line(keeper.decide(&line?.parse()?)?))?;
+        let line = line?;
+        match line.strip_prefix("close ") {
+            Some(context) => writeln!(output, "removed {}", keeper.close(&context.parse()?)?)?,
+            None => writeln!(output, "{}", Line(keeper.decide(&line.parse()?)?))?,
+        }
     }
     Ok(())
 }

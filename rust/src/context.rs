@@ -2,7 +2,7 @@
 
 use crate::bytes::{put_u16, u16_at};
 use crate::text::{exactly, list, pad, Cut, List};
-use crate::{ContextType, ContextValue, ParseError};
+use crate::{ContextType, ContextValue, ParseError, Refusal};
 use std::fmt;
 use std::str::FromStr;
 
@@ -39,6 +39,9 @@ pub struct Context {
 }
 
 impl Context {
+    /// The length of a context's image.
+    pub const LENGTH: usize = 16;
+
     /// The context of no levels.
     pub const WHOLE_BUSINESS: Context = Context { levels: [None; 4] };
 
@@ -64,7 +67,38 @@ impl Context {
         self.levels().count()
     }
 
-    pub(crate) fn read(bytes: &[u8]) -> Option<Context> {
+    /// Whether it has all levels of the other one at the same places, and perhaps more. These are
+    /// the contexts that [`Table::close`](crate::Table::close) closes with the other one.
+    ///
+    /// ```
+    /// use hastovimen::Context;
+    ///
+    /// let job: Context = "1=5, 2=90".parse()?;
+    /// assert!(job.begins_with(&"1=5".parse()?));
+    /// assert!(job.begins_with(&job) && job.begins_with(&Context::WHOLE_BUSINESS));
+    /// assert!(!job.begins_with(&"2=90".parse()?)); // not at the same place
+    /// assert!(!job.begins_with(&"1=5, 2=90, 3=1".parse()?));
+    /// # Ok::<(), hastovimen::ParseError>(())
+    /// ```
+    pub fn begins_with(&self, other: &Context) -> bool {
+        self.levels[..other.depth()] == other.levels[..other.depth()]
+    }
+
+    /// The context that some bytes are, or the refusal that a closing would give them.
+    pub fn read(bytes: &[u8]) -> Result<Context, Refusal> {
+        let bytes = bytes.try_into().map_err(|_| Refusal::ContextLength)?;
+        Context::read_levels(bytes).ok_or(Refusal::ContextField)
+    }
+
+    /// The context's image.
+    #[must_use]
+    pub fn to_bytes(&self) -> [u8; Context::LENGTH] {
+        let mut bytes = [0; Context::LENGTH];
+        self.write(&mut bytes);
+        bytes
+    }
+
+    fn read_levels(bytes: &[u8; Context::LENGTH]) -> Option<Context> {
         let mut levels = [None; 4];
         let mut blank = false;
         for (place, level) in levels.iter_mut().zip(bytes.as_chunks::<4>().0) {

@@ -12,10 +12,11 @@
 //! * a [`Request`] has numbers of the right lists, and none that no list has;
 //! * a decision is a [`Grant`] or a [`Refusal`], which can be shown in words;
 //! * [`Table::preview`] tells what a decision would be, and gives no grant, but a [`Preview`];
+//! * [`Table::close`] removes the records of a [`Context`], such as a depot that shuts;
 //! * [`PolicyBuilder`] and [`TableBuilder`] write images;
 //! * requests, policies, grants, previews and refusals can be read from the text that shows them
 //!   ([`ParseError`]);
-//! * [`raw`] has the five calls on any bytes.
+//! * [`raw`] has the six calls on any bytes.
 //!
 //! A call allocates nothing and takes at most 24 KiB of stack, [`STACK`]. Where tables are kept in
 //! files, examples/keep.rs shows how to store them safely.
@@ -106,6 +107,13 @@
 //! 4: user 11 in role 1: 1 on 1 at 1=5, 2=92 (rules 2)
 //! 5: user 12 in role 2: 4 on 1 at 1=5, 2=92 (rules 2)
 //! ");
+//!
+//! // Depot 5 shuts, and with it the count: nothing that was done there counts any more.
+//! assert_eq!(table.close(&depot(6)), Ok(0));
+//! assert_eq!(table.close(&job(5, 92)), Ok(2));
+//! assert_eq!(table.close(&depot(5)), Ok(3));
+//! let (request, _) = &session[12];
+//! assert_eq!(Line(table.decide(request)).to_string(), "grant 1 0 1");
 //!
 //! // A stored table is checked before it is used again.
 //! let stored = table.image().to_vec();

@@ -1,14 +1,16 @@
-//! The five calls of the engine on bytes, as include/sod.h has them.
+//! The six calls of the engine on bytes, as include/sod.h has them.
 //!
 //! Nothing is assumed of the bytes: whatever they are, each call answers, and a refused one alters
-//! none. A slice has a true length, and the borrow checker keeps a lent table apart from the policy
-//! and the request, so that nothing is left of what the header asks of a C caller.
+//! none. A slice has a true length, and the borrow checker keeps a lent table apart from all else
+//! that is lent, so that nothing is left of what the header asks of a C caller.
 //!
-//! C gets four numbers from every call, of which 0 comes first for acceptance, grant and preview
-//! alike. Here what passes a check is a count, what is granted is a [`Grant`] and what would be is a
-//! [`Preview`], so that none is taken for another. Nothing of the four numbers is lost: numbers and
-//! places that document 01 does not have come as [`Refusal::Other`], and a call panics on a reply of
-//! any other form, such as a recorded of 2. The engine is proved to give none of either.
+//! C gets four numbers from every call, of which 0 comes first for acceptance, grant, preview and
+//! closing alike. Here what passes a check and what a closing removes is a count, what is granted is
+//! a [`Grant`] and what would be is a [`Preview`], so that none is taken for another. 21 and 22 are of
+//! the request or, from a closing, of the context, and are told apart. Nothing of the four numbers is
+//! lost: numbers and places that document 01 does not have come as [`Refusal::Other`], and a call
+//! panics on a reply of any other form, such as a recorded of 2. The engine is proved to give none of
+//! either.
 //!
 //! No call allocates, and each takes at most 24 KiB of stack ([`STACK`](crate::STACK)), whatever the
 //! bytes: tests/stack.rs runs every one on a stack of that size.
@@ -26,6 +28,8 @@
 //! assert_eq!(raw::check_table(&policy, &table), Ok(0));
 //! assert_eq!(raw::decide(&policy, &mut table, &[1; 29]), Err(Refusal::RequestLength));
 //! assert_eq!(raw::preview(&policy, &table, &[1; 28]), Err(Refusal::NotPermitted));
+//! assert_eq!(raw::close(&policy, &mut table, &[1; 28]), Err(Refusal::ContextLength));
+//! assert_eq!(raw::close(&policy, &mut table, &[1; 16]), Ok(0));
 //! # Ok::<(), hastovimen::BuildError>(())
 //! ```
 //!
@@ -43,6 +47,14 @@
 //! use hastovimen::{raw, Grant, Refusal};
 //!
 //! let granted: Result<Grant, Refusal> = raw::preview(&[], &[], &[]);
+//! ```
+//!
+//! Nor is a closing:
+//!
+//! ```compile_fail
+//! use hastovimen::{raw, Grant, Refusal};
+//!
+//! let granted: Result<Grant, Refusal> = raw::close(&[], &mut [], &[]);
 //! ```
 
 #![allow(unsafe_code)]
@@ -63,6 +75,11 @@ impl Reply {
     /// How many rules, records or places were found.
     fn count(self) -> Result<u32, Refusal> {
         self.read(|reply| (reply.second == 0 && reply.third == 0).then_some(reply.first))
+    }
+
+    /// How many records a closing has removed.
+    fn removed(self) -> Result<u32, Refusal> {
+        self.count().map_err(Refusal::of_context)
     }
 
     fn grant(self) -> Result<Grant, Refusal> {
@@ -132,6 +149,14 @@ extern "C" {
         request: *const u8,
         request_len: usize,
     ) -> Reply;
+    fn sod_close(
+        policy: *const u8,
+        policy_len: usize,
+        table: *mut u8,
+        table_len: usize,
+        context: *const u8,
+        context_len: usize,
+    ) -> Reply;
 }
 
 /// Checks a policy: its rules, or 1 to 6.
@@ -182,6 +207,21 @@ pub fn preview(policy: &[u8], table: &[u8], request: &[u8]) -> Result<Preview, R
     reply.preview()
 }
 
+/// Closes a context: how many records were removed, or 1 to 6, 11 to 15, 21, 22.
+pub fn close(policy: &[u8], table: &mut [u8], context: &[u8]) -> Result<u32, Refusal> {
+    let reply = unsafe {
+        sod_close(
+            policy.as_ptr(),
+            policy.len(),
+            table.as_mut_ptr(),
+            table.len(),
+            context.as_ptr(),
+            context.len(),
+        )
+    };
+    reply.removed()
+}
+
 #[cfg(test)]
 mod tests {
     use super::*;
@@ -212,6 +252,7 @@ mod tests {
                 assert_eq!(sod_fresh_table(pointer, 0, pointer, 0), refusal(1));
                 assert_eq!(sod_decide(pointer, 0, pointer, 0, pointer, 0), refusal(1));
                 assert_eq!(sod_preview(pointer, 0, pointer, 0, pointer, 0), refusal(1));
+                assert_eq!(sod_close(pointer, 0, pointer, 0, pointer, 0), refusal(1));
             }
         }
         let policy = crate::PolicyBuilder::new().build().unwrap();
@@ -223,16 +264,20 @@ mod tests {
             assert_eq!(sod_fresh_table(p, len, null_mut(), 0), refusal(11));
             assert_eq!(sod_decide(p, len, null_mut(), 0, null(), 0), refusal(11));
             assert_eq!(sod_preview(p, len, null(), 0, null(), 0), refusal(11));
+            assert_eq!(sod_close(p, len, null_mut(), 0, null(), 0), refusal(11));
             let decided = sod_decide(p, len, table.as_mut_ptr(), 512, null(), 0);
             assert_eq!(decided, refusal(21));
             let previewed = sod_preview(p, len, table.as_ptr(), 512, null(), 0);
             assert_eq!(previewed, refusal(21));
+            let closed = sod_close(p, len, table.as_mut_ptr(), 512, null(), 0);
+            assert_eq!(closed, refusal(21));
         }
     }
 
     #[test]
     fn replies() {
         assert_eq!(reply(0, 9, 0, 0).count(), Ok(9));
+        assert_eq!(reply(0, 9, 0, 0).removed(), Ok(9));
         let grant = Grant {
             recorded: true,
             removed: 2,
@@ -250,6 +295,14 @@ mod tests {
         assert_eq!(refusal(31).count(), Err(Refusal::NotPermitted));
         let strange = reply(31, 1, 0, 0).grant().unwrap_err();
         assert_eq!((strange.number(), strange.places()), (31, (1, 0)));
+        // 21 and 22 are of what the call was lent behind the table.
+        assert_eq!(refusal(21).grant(), Err(Refusal::RequestLength));
+        assert_eq!(refusal(22).preview(), Err(Refusal::RequestField));
+        assert_eq!(refusal(21).removed(), Err(Refusal::ContextLength));
+        assert_eq!(refusal(22).removed(), Err(Refusal::ContextField));
+        assert_eq!(refusal(11).removed(), Err(Refusal::TableLength));
+        let strange = reply(21, 1, 0, 0).removed().unwrap_err();
+        assert_eq!((strange.number(), strange.places()), (21, (1, 0)));
     }
 
     /// Neither a grant nor a preview is ever made of what no decision replies.
@@ -261,6 +314,7 @@ mod tests {
         }
         for bad in [reply(0, 1, 1, 0), reply(0, 1, 0, 1), reply(1, 0, 0, 1)] {
             assert!(catch_unwind(|| bad.count()).is_err());
+            assert!(catch_unwind(|| bad.removed()).is_err());
         }
     }
 }

@@ -80,6 +80,10 @@ pub enum Refusal {
     RequestLength,
     /// 22: a field of the request is wrong.
     RequestField,
+    /// 21 of a closing: the context's length is not 16.
+    ContextLength,
+    /// 22 of a closing: a level of the context is wrong, or follows one that is not used.
+    ContextField,
     /// 31: no active role has the permission.
     NotPermitted,
     /// 32: with this step the user would have been active in the forbidden number of roles.
@@ -112,7 +116,8 @@ pub enum Refusal {
 }
 
 impl Refusal {
-    /// The refusal of a number and its two places, as every call replies them; none for 0.
+    /// The refusal of a number and its two places, as every call replies them; none for 0. 21 and 22
+    /// are taken for the request's ([`of_context`](Refusal::of_context)).
     pub(crate) fn of(number: u32, first: u32, second: u32) -> Option<Refusal> {
         let known = Refusal::known(number, first, second);
         // A place that the number does not have would be lost.
@@ -123,6 +128,15 @@ impl Refusal {
             second,
         };
         (number != 0).then_some(whole.unwrap_or(other))
+    }
+
+    /// The same refusal where it is a closing's: its 21 and 22 are of the context.
+    pub(crate) fn of_context(self) -> Refusal {
+        match self {
+            Refusal::RequestLength => Refusal::ContextLength,
+            Refusal::RequestField => Refusal::ContextField,
+            other => other,
+        }
     }
 
     fn known(number: u32, first: u32, second: u32) -> Option<Refusal> {
@@ -165,8 +179,8 @@ impl Refusal {
             Refusal::TableHeader { .. } => 13,
             Refusal::TableStamp { .. } => 14,
             Refusal::Record { .. } => 15,
-            Refusal::RequestLength => 21,
-            Refusal::RequestField => 22,
+            Refusal::RequestLength | Refusal::ContextLength => 21,
+            Refusal::RequestField | Refusal::ContextField => 22,
             Refusal::NotPermitted => 31,
             Refusal::ExclusiveRoles { .. } => 32,
             Refusal::ExclusivePrivileges { .. } => 33,
@@ -194,6 +208,8 @@ impl Refusal {
             | Refusal::TableLength
             | Refusal::RequestLength
             | Refusal::RequestField
+            | Refusal::ContextLength
+            | Refusal::ContextField
             | Refusal::NotPermitted
             | Refusal::TableFull => (0, 0),
         }

@@ -72,7 +72,7 @@ impl Request {
             user: User::new(u32_at(bytes, 0))?,
             roles: Roles::from_bits(u32_at(bytes, 4))?,
             privilege: Privilege::read(&bytes[8..12])?,
-            context: Context::read(&bytes[12..])?,
+            context: Context::read(&bytes[12..]).ok()?,
         })
     }
 

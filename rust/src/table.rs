@@ -2,7 +2,9 @@
 
 use crate::bytes::{put_header, seal, u16_at};
 use crate::image::TableImage;
-use crate::{raw, BuildError, Grant, Policy, PolicyBuf, Preview, Record, Refusal, Request};
+use crate::{
+    raw, BuildError, Context, Grant, Policy, PolicyBuf, Preview, Record, Refusal, Request,
+};
 use crate::{BLOCK, MOST_TABLE_BLOCKS, RECORDS_PER_BLOCK};
 use std::fmt;
 
@@ -15,9 +17,9 @@ pub(crate) const RECORDS_AT: usize = 24;
 ///
 /// Its buffer is lent by `&mut` ([`Policy::fresh_table`], [`Policy::open_table`]) or its own
 /// ([`Policy::new_table`], [`Policy::own_table`], [`TableBuf`]). It keeps its policy, so that it is
-/// never decided under another one. It is decided on through `&mut self`, by one thread at a time,
-/// and previewed through `&self`, by any number of them. Dropping it gives a lent buffer back, to be
-/// stored.
+/// never decided under another one. It is decided on, and contexts are closed in it, through
+/// `&mut self`, by one thread at a time; it is previewed through `&self`, by any number of them.
+/// Dropping it gives a lent buffer back, to be stored.
 ///
 /// ```compile_fail
 /// # use hastovimen::*;
@@ -182,6 +184,68 @@ impl<'p> Table<'p, '_> {
     /// Previews a request that came as bytes, whatever they are.
     pub fn preview_bytes(&self, request: &[u8]) -> Result<Preview, Refusal> {
         raw::preview(self.policy.image(), &self.image, request)
+    }
+
+    /// Closes a context, such as a depot that shuts: removes every record whose context
+    /// [begins with](Context::begins_with) its levels, and returns how many these were. The other
+    /// records keep their order and their marks. A context without levels names every record. Store the
+    /// table, as after a grant.
+    ///
+    /// What was removed no longer counts for anyone. Of a run that goes beyond the context the rest
+    /// still counts, even if its first step is gone; a run with nothing left has ended. Nothing is
+    /// forbidden: later requests in the context are judged as ever.
+    ///
+    /// ```
+    /// use hastovimen::*;
+    ///
+    /// let policy: PolicyBuilder = "\
+    /// rule 1: over 1=*, 2=!; last step 4 on 1
+    ///   exclusion 1: 2 of privileges 1 on 1, 2 on 1
+    /// role 1 may do 1 on 1
+    /// role 2 may do 2 on 1
+    /// ".parse()?;
+    /// let mut table = Policy::own(policy.build()?)?.new_table(1)?;
+    /// for adjust in [
+    ///     "user 7 in role 1: 1 on 1 at 1=5, 2=90",
+    ///     "user 7 in role 1: 1 on 1 at 1=5, 2=91",
+    ///     "user 7 in role 1: 1 on 1 at 1=6, 2=92",
+    /// ] {
+    ///     assert!(table.decide(&adjust.parse()?)?.recorded);
+    /// }
+    ///
+    /// let depot: Context = "1=5".parse()?;
+    /// let named = table.records().filter(|record| record.request.context.begins_with(&depot));
+    /// assert_eq!(named.count(), 2);
+    /// assert_eq!(table.close(&depot)?, 2);
+    /// assert_eq!(table.held(), 1);
+    /// assert_eq!(table.close(&depot)?, 0);
+    ///
+    /// // The jobs of depot 5 begin anew; that of depot 6 goes on.
+    /// let check = |place: &str| format!("user 7 in role 2: 2 on 1 at {place}").parse::<Request>();
+    /// assert!(table.decide(&check("1=5, 2=90")?).is_ok());
+    /// let forbidden = Refusal::ExclusivePrivileges { rule: 1, exclusion: 1 };
+    /// assert_eq!(table.decide(&check("1=6, 2=92")?), Err(forbidden));
+    /// # Ok::<(), Box<dyn std::error::Error>>(())
+    /// ```
+    ///
+    /// A `Context` is always a good one, and the table was checked. So it is refused only if a lent
+    /// buffer was altered from outside the program, as a mapped file can be.
+    ///
+    /// A reader, who may preview, cannot close:
+    ///
+    /// ```compile_fail
+    /// # use hastovimen::*;
+    /// fn reader(table: &Table, context: &Context) -> Result<u32, Refusal> {
+    ///     table.close(context)
+    /// }
+    /// ```
+    pub fn close(&mut self, context: &Context) -> Result<u32, Refusal> {
+        self.close_bytes(&context.to_bytes())
+    }
+
+    /// Closes a context that came as bytes, whatever they are.
+    pub fn close_bytes(&mut self, context: &[u8]) -> Result<u32, Refusal> {
+        raw::close(self.policy.image(), &mut self.image, context)
     }
 
     /// The policy that it stands under.

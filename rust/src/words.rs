@@ -46,6 +46,8 @@ impl fmt::Display for At<'_> {
             | Refusal::TableLength
             | Refusal::RequestLength
             | Refusal::RequestField
+            | Refusal::ContextLength
+            | Refusal::ContextField
             | Refusal::NotPermitted
             | Refusal::TableFull => Ok(()),
         }
@@ -76,6 +78,8 @@ fn fault(refusal: &Refusal) -> &'static str {
         Refusal::TableStamp { .. } => "the table is of another policy",
         Refusal::RequestLength => "the request is not 28 bytes",
         Refusal::RequestField => "a field of the request is wrong",
+        Refusal::ContextLength => "the context is not 16 bytes",
+        Refusal::ContextField => "a level of the context is wrong, or follows one that is not used",
         Refusal::NotPermitted => "no active role has the permission",
         Refusal::ExclusiveRoles { .. } => {
             "the user would have been active in too many exclusive roles"
@@ -101,6 +105,7 @@ impl FromStr for Refusal {
         [(0, 0), (a, 0), (a, b), (a, c)]
             .into_iter()
             .filter_map(|(first, second)| Refusal::of(number, first, second))
+            .flat_map(|refusal| [refusal, refusal.of_context()])
             .find(|refusal| shows(refusal, text))
             .ok_or_else(|| ParseError::form("refusal", text))
     }
@@ -110,7 +115,8 @@ impl FromStr for Refusal {
 mod tests {
     use super::*;
 
-    /// Every number of document 01 comes back with its places and has words of its own.
+    /// Every number of document 01 comes back with its places and has words of its own; 21 and 22 have
+    /// others where they are a closing's.
     #[test]
     fn numbers_places_and_words() {
         let with_two = [5, 6, 15, 32, 33];
@@ -131,10 +137,15 @@ mod tests {
                 words.push(refusal.to_string());
             }
         }
-        assert_eq!(words.len(), 17);
+        for refusal in [Refusal::ContextLength, Refusal::ContextField] {
+            assert_eq!(refusal.places(), (0, 0));
+            assert_eq!(refusal.to_string().parse(), Ok(refusal));
+            words.push(refusal.to_string());
+        }
+        assert_eq!(words.len(), 19);
         words.sort();
         words.dedup();
-        assert_eq!(words.len(), 17);
+        assert_eq!(words.len(), 19);
     }
 
     /// What document 01 does not have is kept as it came, and is shown and read too.

@@ -3,6 +3,8 @@
 //! Here the expected answers are written down from the paper, so that engine and independent judges
 //! cannot agree on a mistake.
 
+#[path = "edges/closings.rs"]
+mod closings;
 mod independent;
 #[path = "edges/ranges.rs"]
 mod ranges;
@@ -108,6 +110,7 @@ fn policy_gets(comparing: &mut Comparing, policy: &[u8], expected: Reply) {
         assert_eq!(comparing.fresh_table(policy, &mut table), expected);
         assert_eq!(comparing.preview(policy, &table, &request), expected);
         assert_eq!(comparing.decide(policy, &mut table, &request), expected);
+        assert_eq!(comparing.close(policy, &mut table, &[0; 16]), expected);
     }
 }
 
@@ -121,6 +124,11 @@ fn table_gets(comparing: &mut Comparing, table: &[u8], expected: Reply) {
             assert_eq!(comparing.preview(&policy, table, request), expected);
             let mut table = table.to_vec();
             assert_eq!(comparing.decide(&policy, &mut table, request), expected);
+        }
+        // And before those of a context: a good one, a bad one, one that is too short or too long.
+        for context in [&[0; 16][..], &[0, 0, 1, 0].repeat(4), &[0; 15], &[1; 17]] {
+            let mut table = table.to_vec();
+            assert_eq!(comparing.close(&policy, &mut table, context), expected);
         }
     }
 }
@@ -554,6 +562,20 @@ impl Session {
         assert_eq!((reply, registered), (expected, expected));
         assert_eq!(self.table, self.register.image());
     }
+
+    /// A closing of these levels of depot, job and so on removes so many.
+    fn closes(&mut self, values: &[u16], removed: usize) {
+        let levels: Context = (1..).zip(values.iter().copied()).collect();
+        self.closing_gets(&write_context(&levels), Reply::accept(removed));
+    }
+
+    /// A closing gets this answer; the table is the register's image.
+    fn closing_gets(&mut self, context: &[u8], expected: Reply) {
+        let reply = (self.comparing).close(&self.policy, &mut self.table, context);
+        let registered = self.register.close(context);
+        assert_eq!((reply, registered), (expected, expected));
+        assert_eq!(self.table, self.register.image());
+    }
 }
 
 /// "15 held in one block and a sixteenth request that would be marked and removes none gives 34, an
@@ -673,6 +695,14 @@ const WORK: Privilege = Privilege {
 };
 const CLOSE: Privilege = Privilege {
     operation: 2,
+    target: 1,
+};
+const BEGIN: Privilege = Privilege {
+    operation: 3,
+    target: 1,
+};
+const CHECK: Privilege = Privilege {
+    operation: 4,
     target: 1,
 };
 

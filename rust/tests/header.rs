@@ -35,7 +35,7 @@ fn without_comments(text: &str) -> String {
     rest
 }
 
-fn refusals() -> [(&'static str, Refusal); 17] {
+fn refusals() -> [(&'static str, Refusal); 19] {
     let (block, entry, record) = (0, 0, 1);
     let (rule, exclusion) = (1, 1);
     [
@@ -58,6 +58,8 @@ fn refusals() -> [(&'static str, Refusal); 17] {
         ("SOD_TABLE_RECORD", Refusal::Record { block, record }),
         ("SOD_REQUEST_LENGTH", Refusal::RequestLength),
         ("SOD_REQUEST_FIELD", Refusal::RequestField),
+        ("SOD_CONTEXT_LENGTH", Refusal::ContextLength),
+        ("SOD_CONTEXT_FIELD", Refusal::ContextField),
         ("SOD_NOT_PERMITTED", Refusal::NotPermitted),
         (
             "SOD_EXCLUSIVE_ROLES",
@@ -71,11 +73,12 @@ fn refusals() -> [(&'static str, Refusal); 17] {
     ]
 }
 
-const SIZES: [(&str, usize); 7] = [
+const SIZES: [(&str, usize); 8] = [
     ("SOD_STACK", STACK),
     ("SOD_BLOCK", BLOCK),
     ("SOD_REQUEST", Request::LENGTH),
     ("SOD_RECORD", Record::LENGTH),
+    ("SOD_CONTEXT", Context::LENGTH),
     ("SOD_RECORDS_PER_BLOCK", RECORDS_PER_BLOCK),
     ("SOD_MOST_POLICY_BLOCKS", MOST_POLICY_BLOCKS),
     ("SOD_MOST_TABLE_BLOCKS", MOST_TABLE_BLOCKS),
@@ -135,7 +138,7 @@ fn functions_and_parameters() {
     let (raw, _) = raw.split_once("\n}").expect("their end");
     let raw = functions(raw, "fn ");
     let header = functions(&header, "sod_reply ");
-    assert_eq!(header.len(), 5);
+    assert_eq!(header.len(), 6);
     assert_eq!(
         header.keys().collect::<Vec<_>>(),
         raw.keys().collect::<Vec<_>>()

@@ -11,8 +11,10 @@ use std::path::{Path, PathBuf};
 use std::thread;
 
 const LINES: &str = include_str!("../../examples/session.expected");
+const CLOSED: &str = include_str!("../../examples/closing.expected");
 const POLICY: &str = include_str!("sample/policy");
 const REQUESTS: &str = include_str!("sample/requests");
+const CLOSINGS: &str = include_str!("sample/closings");
 
 /// A folder that goes with this value.
 struct Folder(PathBuf);
@@ -63,6 +65,24 @@ fn sample_session() {
     let table = table.unwrap();
     assert_eq!((table.held(), table.places()), (5, 60));
     assert!(!folder.file("table.new").exists());
+}
+
+/// After the sample session depot 5 shuts. A closing is stored: the next keeper knows of it.
+#[test]
+fn closings() {
+    let folder = Folder::new("keep_closings", &sample_policy());
+    let answer = |input: &str| {
+        let mut output = vec![];
+        keep(&folder.0, input.as_bytes(), &mut output).unwrap();
+        String::from_utf8(output).unwrap()
+    };
+    let mut lines = answer(REQUESTS).lines().count();
+    for (asked, told) in CLOSINGS.lines().zip(CLOSED.lines()) {
+        lines += 1;
+        assert_eq!(format!("{lines} {}", answer(asked)), format!("{told}\n"));
+    }
+    assert_eq!(lines, 19);
+    assert_eq!(answer("close the whole business"), "removed 1\n");
 }
 
 /// Four at once: what one is granted, no other one overwrites.

@@ -18,10 +18,12 @@ struct Kept {
 
 fn kept_anywhere<T: Send + Sync + 'static>(_: &T) {}
 
-/// Lent and owned, the same requests get the same answers and leave the same images.
+/// Lent and owned, the same requests and closings get the same answers and leave the same images.
+/// What was recorded less what was removed, by grants and by closings, is held.
 #[test]
 fn lent_and_owned_alike() {
     let mut chance = Chance::new(21);
+    let mut all_closed = 0;
     for _ in 0..100 {
         let world = World::either(&mut chance);
         let blocks = chance.from(1, 3);
@@ -34,13 +36,27 @@ fn lent_and_owned_alike() {
         };
         kept_anywhere(&kept);
         kept_anywhere(&policy);
+        let (mut recorded, mut removed) = (0, 0);
         for i in 0..60 {
             let asked = request(&world.request(&mut chance));
             let first = kept.tables.len() - 1;
             assert_eq!(kept.tables[first].preview(&asked), table.preview(&asked));
             let decided = table.decide(&asked);
             assert_eq!(kept.tables[first].decide(&asked), decided);
+            if let Ok(grant) = decided {
+                recorded += u32::from(grant.recorded);
+                removed += grant.removed;
+            }
+            if i % 20 == 15 {
+                let outermost: Vec<_> = asked.context.levels().take(1).collect();
+                let depot = Context::new(&outermost).unwrap();
+                let closed = table.close(&depot);
+                assert_eq!(kept.tables[first].close(&depot), closed);
+                removed += closed.unwrap();
+                all_closed += closed.unwrap();
+            }
             assert_eq!(kept.tables[first].image(), table.image());
+            assert_eq!(table.held() as u32, recorded - removed);
             if i % 20 == 10 {
                 // Stored and opened again; the old one is kept, and not decided on any more.
                 let image = kept.tables[first].image().to_vec();
@@ -53,6 +69,10 @@ fn lent_and_owned_alike() {
         assert_eq!(owned.into_image(), image);
         assert_eq!(buffer, image);
     }
+    assert!(
+        all_closed > 300,
+        "closings have removed {all_closed} records"
+    );
 }
 
 /// A table behind a lock: readers preview it together, a writer decides in between, and no preview

@@ -1,15 +1,15 @@
 //! Engine, both independent judges and the full register over lists by chance, in which requests are
-//! decided and some of them previewed.
+//! decided, some of them previewed, and contexts closed.
 //!
 //! In a debug build each part but the large lists is a tenth as long.
 //!
-//! At every decision the engine's probe is asked too how many blocks were written.
+//! At every decision and closing the engine's probe is asked too how many blocks were written.
 //!
 //! Each part goes by a seed and by a number of decisions, never by the clock, so that it does the
 //! same everywhere; and each part fails if an answer that it is there for did not come up often.
 //! Where a list fails, its shortest failing beginning is printed in words.
 //!
-//! The long run, of more than ten million decisions:
+//! The long run, of some twelve million decisions:
 //!
 //!     cargo test --release --offline --test random -- --ignored --nocapture long
 //!
@@ -23,12 +23,13 @@ use independent::judge::fits;
 use independent::Reply;
 use support::busy::{Busy, Pool, MET};
 use support::chance::Chance;
+use support::closed;
 use support::compare::*;
 use support::damage::{damage, move_record, restamp, telling, MOVED};
-use support::lists::{shortest, Call, List, Start};
+use support::lists::{shortest, Call, List, Start, BY_DOCUMENT_01};
 use support::ranged;
 use support::repeated::Repeated;
-use support::world::{request_bytes, World};
+use support::world::{damaged_context, request_bytes, Asked, World};
 use support::written;
 
 const SEED: u64 = 2_026;
@@ -101,6 +102,14 @@ fn list(
     }
 }
 
+/// The same with closings. Every fourth list has none, so that runs are also held against document 01's
+/// words.
+fn with_closings_or_not(chance: &mut Chance, mut list: List) -> List {
+    let of_a_hundred = chance.pick(&[0, 2, 5, 20]);
+    list.calls = Call::with_closings(chance, list.calls, of_a_hundred);
+    list
+}
+
 fn noise(chance: &mut Chance, length: usize) -> Vec<u8> {
     (0..length).map(|_| chance.next() as u8).collect()
 }
@@ -129,18 +138,24 @@ fn small_list(comparing: &mut Comparing, chance: &mut Chance) {
     let accepted = Reply::accept(world.policy.rules.len());
     assert_eq!(comparing.check_policy(&world.image), accepted);
     let (blocks, length) = (chance.from(1, 3), chance.from(0, 200));
-    list(chance, &world, blocks, length, 4, 1).run(comparing);
+    let list = list(chance, &world, blocks, length, 4, 1);
+    with_closings_or_not(chance, list).run(comparing);
 }
 
 fn large_list(comparing: &mut Comparing, chance: &mut Chance) {
     let world = World::lenient(chance);
-    list(chance, &world, 128, 3_000, 1, 100).run(comparing);
+    let mut list = list(chance, &world, 128, 4_000, 1, 100);
+    // Not before the table is full.
+    let later = list.calls.split_off(list.calls.len() * 3 / 4);
+    list.calls.extend(Call::with_closings(chance, later, 1));
+    list.run(comparing);
 }
 
 fn middling_list(comparing: &mut Comparing, chance: &mut Chance) {
     let world = large_world(chance);
     let blocks = chance.from(4, 24);
-    list(chance, &world, blocks, 24 * blocks, 1, 10).run(comparing);
+    let list = list(chance, &world, blocks, 24 * blocks, 1, 10);
+    with_closings_or_not(chance, list).run(comparing);
 }
 
 /// What decisions must have seen so many times; previews, which are fewer, a fifth of that.
@@ -156,6 +171,8 @@ fn must_have_seen_in_lists(seen: &Seen, times: usize) {
     }
     seen.must_note(&[MAKES_ROOM], times / 25);
     seen.must_note(&ranged::MET, 2 * times / 5);
+    seen.must_refuse("close", &REQUEST_NUMBERS, times / 5);
+    seen.must_note(&closed::MET, times / 25);
 }
 
 /// With 32 rules a table is seldom empty again.
@@ -179,6 +196,57 @@ fn small_lists() {
         small_list,
     );
     must_have_seen_in_lists(&comparing.seen, full(5_000));
+    comparing.seen.must_note(&[BY_DOCUMENT_01], full(100_000));
+    println!("{}", comparing.seen);
+}
+
+/// Runs that first steps have opened, and closings of some of their contexts.
+fn opened_list(comparing: &mut Comparing, chance: &mut Chance) {
+    let world = World::opened(chance);
+    let world = with_ranges_or_not(chance, world);
+    let blocks = chance.from(1, 3);
+    let start = Start::Fresh(noise(chance, 512 * blocks));
+    // Every eighth list has no closing, so that runs are also held against document 01's words.
+    let closings = !chance.percent(12);
+    let mut calls = vec![];
+    for _ in 0..chance.from(1, 12) {
+        for asked in world.episode(chance) {
+            match asked {
+                Asked::Request(request) => {
+                    let bytes = request_bytes(chance, &request, 1);
+                    calls.extend(Call::with_previews(chance, vec![bytes]));
+                }
+                Asked::Closing(levels) if closings => {
+                    let bytes = write_context(&levels).to_vec();
+                    calls.push(Call::Close(damaged_context(chance, bytes, 3)));
+                }
+                Asked::Closing(_) => {}
+            }
+        }
+    }
+    let of_a_hundred = if closings { 3 } else { 0 };
+    List {
+        policy: world.image.clone(),
+        start,
+        calls: Call::with_closings(chance, calls, of_a_hundred),
+        every: 1,
+    }
+    .run(comparing);
+}
+
+fn must_have_seen_in_opened_lists(seen: &Seen, times: usize) {
+    seen.must_note(&closed::MET, times);
+    seen.must_note(&closed::MET_OPENED, times);
+    seen.must_note(&closed::MET_AFTER, times);
+    seen.must_note(&[BY_DOCUMENT_01], 20 * times);
+}
+
+#[test]
+fn opened_runs() {
+    let mut comparing = Comparing::new();
+    let one = opened_list;
+    until(&mut comparing, "opened runs", SEED, full(200_000), one);
+    must_have_seen_in_opened_lists(&comparing.seen, full(300));
     println!("{}", comparing.seen);
 }
 
@@ -195,22 +263,30 @@ fn large_lists() {
     must_have_seen_in_large_lists(&comparing.seen, 20);
     println!("{}", comparing.seen);
     let mut comparing = Comparing::new();
-    until(&mut comparing, "large lists", SEED, 3_000, large_list);
+    until(&mut comparing, "large lists", SEED, 4_000, large_list);
     for (call, times) in both_calls(20) {
         comparing.seen.must_refuse(call, &[34], times);
     }
+    comparing.seen.must_note(&closed::MET_WHEN_FULL, 1);
     println!("{}", comparing.seen);
 }
 
 // ---------------------------------------------------------------------------------------------
 // Tables that pass the check, but that no list leads to
 
-/// A list on a table that is given.
-fn list_on(chance: &mut Chance, policy: &[u8], table: Vec<u8>, requests: Vec<Vec<u8>>) -> List {
+/// A list on a table that is given; before so many of a hundred calls there is a closing.
+fn list_on(
+    chance: &mut Chance,
+    policy: &[u8],
+    table: Vec<u8>,
+    requests: Vec<Vec<u8>>,
+    closings: usize,
+) -> List {
+    let calls = Call::with_previews(chance, requests);
     List {
         policy: policy.to_vec(),
         start: Start::Given(table),
-        calls: Call::with_previews(chance, requests),
+        calls: Call::with_closings(chance, calls, closings),
         every: 1,
     }
 }
@@ -229,7 +305,7 @@ fn strange_table(comparing: &mut Comparing, chance: &mut Chance) {
             request_bytes(chance, &request, 2)
         })
         .collect();
-    list_on(chance, &world.image, table, requests).run(comparing);
+    list_on(chance, &world.image, table, requests, 10).run(comparing);
 }
 
 fn strange_large_table(comparing: &mut Comparing, chance: &mut Chance) {
@@ -241,7 +317,7 @@ fn strange_large_table(comparing: &mut Comparing, chance: &mut Chance) {
     let requests = (0..50)
         .map(|_| write_request(&world.request(chance)).to_vec())
         .collect();
-    list_on(chance, &world.image, table, requests).run(comparing);
+    list_on(chance, &world.image, table, requests, 5).run(comparing);
 }
 
 #[test]
@@ -281,7 +357,9 @@ fn busy_table(comparing: &mut Comparing, chance: &mut Chance) {
     let requests = (0..chance.from(5, 25))
         .map(|_| write_request(&busy.request(chance)).to_vec())
         .collect();
-    list_on(chance, policy, table, requests).run_noting(comparing, |seen, table, request| {
+    let closings = chance.pick(&[0, 0, 10]);
+    let list = list_on(chance, policy, table, requests, closings);
+    list.run_noting(comparing, |seen, table, request| {
         let records = read_table(&busy.policy, stamp, table, fits).expect("a good table");
         let request = read_request(request).expect("a good request");
         for what in busy.meets(&records, &request) {
@@ -327,11 +405,12 @@ fn repeated_table(comparing: &mut Comparing, chance: &mut Chance) {
     let requests = (0..chance.from(1, 4))
         .map(|_| write_request(&repeated.request(chance)).to_vec())
         .collect();
-    list_on(chance, policy, table, requests).run(comparing);
+    list_on(chance, policy, table, requests, 25).run(comparing);
 }
 
 fn must_have_seen_in_repeated_tables(seen: &Seen, times: usize) {
-    seen.must_note(&written::MET, times);
+    seen.must_note_of("decide", &written::MET, times);
+    seen.must_note_of("close", &written::MET_BY_CLOSING, times);
     seen.must_note(&ranged::ENDED, times);
     seen.must_refuse("decide", &[34], times);
 }
@@ -353,12 +432,19 @@ fn repeated_requests() {
 // ---------------------------------------------------------------------------------------------
 // Damaged images
 
-/// Puts all five calls to what may be damaged. What the check of the table says.
-fn all_calls(comparing: &mut Comparing, policy: &[u8], table: &[u8], request: &[u8]) -> Reply {
+/// Puts all six calls to what may be damaged. What the check of the table says.
+fn all_calls(
+    comparing: &mut Comparing,
+    policy: &[u8],
+    table: &[u8],
+    request: &[u8],
+    context: &[u8],
+) -> Reply {
     comparing.check_policy(policy);
     let checked = comparing.check_table(policy, table);
     comparing.fresh_table(policy, &mut table.to_vec());
     preview_and_decide(comparing, policy, table, request);
+    comparing.close(policy, &mut table.to_vec(), context);
     checked
 }
 
@@ -375,7 +461,13 @@ fn preview_and_decide(
     reply
 }
 
-/// A world, a table in use and a request, one or more of them damaged in several ways.
+/// The bytes of a context of some of these levels.
+fn beginning(chance: &mut Chance, context: &Context) -> Vec<u8> {
+    let depth = chance.from(0, context.len());
+    write_context(&context[..depth]).to_vec()
+}
+
+/// A world, a table in use, a request and a context, one or more of them damaged in several ways.
 fn damaged_images(comparing: &mut Comparing, chance: &mut Chance) {
     let world = small_world(chance);
     let blocks = chance.from(1, 3);
@@ -407,8 +499,11 @@ fn damaged_images(comparing: &mut Comparing, chance: &mut Chance) {
             damage(chance, &mut table);
         }
         let request = world.request(chance);
-        let request = request_bytes(chance, &request, if bad_request { 80 } else { 5 });
-        let checked = all_calls(comparing, &policy, &table, &request);
+        let damaged = if bad_request { 80 } else { 5 };
+        let context = beginning(chance, &request.context);
+        let context = damaged_context(chance, context, damaged);
+        let request = request_bytes(chance, &request, damaged);
+        let checked = all_calls(comparing, &policy, &table, &request, &context);
         if let Some((what, _)) = moved.filter(|&(_, number)| number == checked.number) {
             comparing.seen.note(what);
         }
@@ -420,11 +515,11 @@ fn must_have_seen_in_damaged_images(seen: &Seen, times: usize) {
         seen.must_refuse(call, &POLICY_NUMBERS, times);
     }
     seen.must_refuse("fresh_table", &[11], times);
-    for call in ["check_table", "decide", "preview"] {
+    for call in ["check_table", "decide", "preview", "close"] {
         seen.must_refuse(call, &POLICY_NUMBERS, times);
         seen.must_refuse(call, &TABLE_NUMBERS, times);
     }
-    for call in ["decide", "preview"] {
+    for call in ["decide", "preview", "close"] {
         seen.must_refuse(call, &REQUEST_NUMBERS, times);
     }
     seen.must_note(&MOVED, times);
@@ -443,12 +538,13 @@ fn damaged() {
 const RANGE_REFUSED: &str = "a damaged range is refused by 4";
 const RANGE_PASSES: &str = "a damaged range is another good level";
 
-/// Every byte of a policy with ranges, of a table and of a request, resealed and not.
+/// Every byte of a policy with ranges, of a table, of a request and of a context, resealed and not.
 fn every_byte(comparing: &mut Comparing, chance: &mut Chance) {
     let world = World::ranged(chance);
     let records = world.records(chance, 20);
     let table = write_table(world.stamp(), &records, 2);
-    let request = write_request(&world.request(chance));
+    let asked = world.request(chance);
+    let (request, context) = (write_request(&asked), write_context(&asked.context));
     for at in 0..world.image.len() {
         for sealed in [false, true] {
             let mut policy = world.image.clone();
@@ -458,10 +554,10 @@ fn every_byte(comparing: &mut Comparing, chance: &mut Chance) {
             }
             let mut table = table.clone();
             restamp(&mut table, sums(&policy));
-            all_calls(comparing, &policy, &table, &request);
+            all_calls(comparing, &policy, &table, &request, &context);
         }
     }
-    every_byte_of_a_range(comparing, chance, &world, &table, &request);
+    every_byte_of_a_range(comparing, chance, &world, &table, &asked);
     for at in 0..table.len() {
         for sealed in [false, true] {
             let mut table = table.clone();
@@ -469,7 +565,7 @@ fn every_byte(comparing: &mut Comparing, chance: &mut Chance) {
             if sealed {
                 reseal(&mut table);
             }
-            all_calls(comparing, &world.image, &table, &request);
+            all_calls(comparing, &world.image, &table, &request, &context);
         }
     }
     for at in 0..request.len() {
@@ -477,6 +573,13 @@ fn every_byte(comparing: &mut Comparing, chance: &mut Chance) {
             let mut request = request;
             request[at] = value;
             preview_and_decide(comparing, &world.image, &table, &request);
+        }
+    }
+    for at in 0..context.len() {
+        for value in 0..=255 {
+            let mut context = context;
+            context[at] = value;
+            comparing.close(&world.image, &mut table.clone(), &context);
         }
     }
 }
@@ -487,8 +590,9 @@ fn every_byte_of_a_range(
     chance: &mut Chance,
     world: &World,
     table: &[u8],
-    request: &[u8],
+    asked: &Request,
 ) {
+    let (request, context) = (write_request(asked), write_context(&asked.context));
     let levels = (world.policy.rules.iter().enumerate())
         .flat_map(|(r, rule)| (0..rule.levels.len()).map(move |i| BLOCK * r + 16 + 8 * i));
     let ranges: Vec<usize> = levels.filter(|&at| world.image[at + 2] == 4).collect();
@@ -500,7 +604,7 @@ fn every_byte_of_a_range(
             reseal(&mut policy);
             let mut table = table.to_vec();
             restamp(&mut table, sums(&policy));
-            match all_calls(comparing, &policy, &table, request).number {
+            match all_calls(comparing, &policy, &table, &request, &context).number {
                 4 => comparing.seen.note(RANGE_REFUSED),
                 // Records that were good may have come to lie outside.
                 0 | 15 => comparing.seen.note(RANGE_PASSES),
@@ -515,7 +619,7 @@ fn every_byte_damaged() {
     let mut comparing = Comparing::new();
     until(&mut comparing, "every byte", SEED, full(60_000), every_byte);
     let seen = &comparing.seen;
-    for call in ["decide", "preview"] {
+    for call in ["decide", "preview", "close"] {
         seen.must_refuse(call, &[2, 3, 4, 5, 6, 12, 13, 14, 15, 22], full(30));
     }
     seen.must_note(&[RANGE_REFUSED, RANGE_PASSES], full(800));
@@ -529,6 +633,7 @@ fn lengths() {
     let mut chance = Chance::new(SEED);
     let world = World::ranged(&mut chance);
     let request = write_request(&world.request(&mut chance));
+    let context = &request[12..];
     let table = write_table(world.stamp(), &[], 1);
     let around = |blocks: usize| [512 * blocks - 1, 512 * blocks, 512 * blocks + 1];
     let short = 0..1_100;
@@ -536,20 +641,24 @@ fn lengths() {
     for length in short.clone().chain(around(64)).chain(around(65)) {
         let mut policy = world.image.clone();
         policy.resize(length, 0);
-        all_calls(&mut comparing, &policy, &table, &request);
+        all_calls(&mut comparing, &policy, &table, &request, context);
     }
     for length in short.chain(around(128)).chain(around(129)) {
         let mut table = table.clone();
         table.resize(length, 0);
-        all_calls(&mut comparing, &world.image, &table, &request);
+        all_calls(&mut comparing, &world.image, &table, &request, context);
     }
     for length in 0..100 {
         let mut request = request.to_vec();
         request.resize(length, 0);
         let reply = preview_and_decide(&mut comparing, &world.image, &table, &request);
         assert_eq!(reply.number == 21, length != 28);
+        let mut context = context.to_vec();
+        context.resize(length, 0);
+        let reply = comparing.close(&world.image, &mut table.clone(), &context);
+        assert_eq!(reply.number == 21, length != 16);
     }
-    for call in ["fresh_table", "preview"] {
+    for call in ["fresh_table", "preview", "close"] {
         comparing.seen.must_refuse(call, &[1, 11], 1_000);
     }
 }
@@ -577,8 +686,9 @@ fn long() {
     let seed = number_from("SOD_SEED", SEED + 1);
     let times = number_from("SOD_TIMES", 1) as usize;
     type Part = (&'static str, usize, fn(&mut Comparing, &mut Chance));
-    let parts: [Part; 9] = [
+    let parts: [Part; 10] = [
         ("small lists", 7_000_000, small_list),
+        ("opened runs", 1_000_000, opened_list),
         ("middling lists", 100_000, middling_list),
         ("large lists", 15_000, large_list),
         ("strange tables", 2_000_000, strange_table),
@@ -588,15 +698,17 @@ fn long() {
         ("damaged images", 1_000_000, damaged_images),
         ("every byte", 500_000, every_byte),
     ];
-    let (mut decisions, mut previews) = (0, 0);
+    let (mut decisions, mut previews, mut closings) = (0, 0, 0);
     for (part, enough, one) in parts {
         let mut comparing = Comparing::new();
         until(&mut comparing, part, seed, enough * times, one);
         println!("{part}: {}", comparing.seen);
         decisions += comparing.seen.decisions;
         previews += comparing.seen.previews;
+        closings += comparing.seen.closings;
         match part {
             "small lists" => must_have_seen_in_lists(&comparing.seen, 10_000 * times),
+            "opened runs" => must_have_seen_in_opened_lists(&comparing.seen, 1_500 * times),
             "strange tables" => must_have_seen_in_lists(&comparing.seen, 5_000 * times),
             "busy tables" => must_have_seen_in_busy_tables(&comparing.seen, 250 * times),
             "repeated requests" => must_have_seen_in_repeated_tables(&comparing.seen, 1_000),
@@ -604,5 +716,7 @@ fn long() {
             _ => {}
         }
     }
-    println!("{decisions} decisions and {previews} previews in all, from seed {seed}");
+    println!(
+        "{decisions} decisions, {previews} previews and {closings} closings in all, from seed {seed}"
+    );
 }

@@ -1,6 +1,8 @@
 //! The stack that a call takes, as include/sod.h states it: each call runs on a stack of just that
 //! size, below which lies a page that may not be touched.
 
+#[path = "support/engine.rs"]
+mod engine;
 mod independent;
 #[path = "support/plain.rs"]
 mod plain;
@@ -66,6 +68,7 @@ struct Lent {
     call: Call,
     policy: Vec<u8>,
     table: Vec<u8>,
+    /// A request; the context of a closing.
     request: Vec<u8>,
     reply: Option<Reply>,
 }
@@ -77,6 +80,7 @@ enum Call {
     FreshTable,
     Decide,
     Preview,
+    Close,
 }
 
 /// Runs on the small stack: nothing but the call.
@@ -89,6 +93,7 @@ extern "C" fn start() {
         Call::FreshTable => plain::count(raw::fresh_table(&lent.policy, &mut lent.table)),
         Call::Decide => plain::grant(raw::decide(&lent.policy, &mut lent.table, &lent.request)),
         Call::Preview => plain::preview(raw::preview(&lent.policy, &lent.table, &lent.request)),
+        Call::Close => engine::close(&lent.policy, &mut lent.table, &lent.request),
     });
 }
 
@@ -209,6 +214,35 @@ fn every_call(policy: &[u8]) {
                     gets(call, 1, Reply::grant(1, 0, held + 1));
                 }
             }
+            let all = request(1).context;
+            for (levels, removed) in [(&all[..0], held), (&all, held), (&[(1, 8)], 0)] {
+                let context = write_context(levels);
+                let reply = on_small_stack(Call::Close, policy, &table, &context);
+                assert_eq!(reply, Reply::accept(removed));
+            }
+        }
+    }
+}
+
+/// Every other record is of a context that is closed, so that all that stay are moved. A fixed value
+/// at each level would leave no second context.
+#[test]
+fn closings_on_a_small_stack() {
+    let marks = [Mark::Range(9, 65535), Mark::Each];
+    for levels in [vec![]].into_iter().chain(marks.map(four)) {
+        let policy = largest_policy(levels);
+        for blocks in [1, 5, 128] {
+            let mut records = vec![];
+            for i in 0..places(blocks) {
+                let (mut request, marks) = (request(1), u32::MAX);
+                request.context[3].1 += (i % 2) as u16;
+                records.push(Record { request, marks });
+            }
+            let table = write_table(sums(&policy), &records, blocks);
+            let context = write_context(&records[0].request.context);
+            let removed = places(blocks).div_ceil(2);
+            let reply = on_small_stack(Call::Close, &policy, &table, &context);
+            assert_eq!(reply, Reply::accept(removed));
         }
     }
 }

@@ -243,6 +243,11 @@ fn grants_previews_and_refusals() {
             try_out(&mut chance, line);
         }
     }
+    // A closing's, of which no line tells.
+    for refusal in [Refusal::ContextLength, Refusal::ContextField] {
+        altered.try_out(&mut chance, &refusal);
+        as_its_text(&refusal);
+    }
     assert!(altered.read > 1_000, "{} read", altered.read);
     assert!(altered.not_read > 1_000, "{} not read", altered.not_read);
 }

@@ -406,6 +406,120 @@ fn previews() {
     }
 }
 
+/// A context to close: in most cases the first levels of one that is on record, at times with one of
+/// them altered.
+fn closed_context(chance: &mut Chance, records: &[images::Record]) -> Vec<(u16, u16)> {
+    let mut levels = match records {
+        [] => vec![(1, 1), (2, 1)],
+        _ => chance.pick(records).request.context,
+    };
+    levels.truncate(chance.from(0, 4));
+    if !levels.is_empty() && chance.percent(20) {
+        let at = chance.below(levels.len());
+        let (kind, value) = levels[at];
+        levels[at] = chance.pick(&[(kind, value % 65535 + 1), (kind % 65535 + 1, value)]);
+    }
+    levels
+}
+
+fn context(levels: &[(u16, u16)]) -> Context {
+    let levels: Vec<_> = (levels.iter())
+        .map(|&(kind, value)| (ContextType::of(kind), ContextValue::of(value)))
+        .collect();
+    Context::new(&levels).unwrap()
+}
+
+/// A closing through the wrapper is that of the bytes: just the records go whose context has these
+/// levels first, and what is left is the image of the others, with their marks and in their order.
+#[test]
+fn closings() {
+    let mut chance = Chance::new(5);
+    let mut seen: BTreeMap<&str, usize> = BTreeMap::new();
+    for _ in 0..400 {
+        let world = World::either(&mut chance);
+        let policy = Policy::check(&world.image).unwrap();
+        let blocks = chance.from(1, 4);
+        let count = chance.from(0, images::places(blocks));
+        let mut records = world.records(&mut chance, count);
+        let mut lent = images::write_table(world.stamp(), &records, blocks);
+        let mut owned = policy.own_table(lent.clone()).unwrap();
+        let mut table = policy.open_table(&mut lent).unwrap();
+        for _ in 0..5 {
+            let levels = closed_context(&mut chance, &records);
+            let closed = context(&levels);
+            let mut bytes = table.image().to_vec();
+            let before = records.len();
+            for (read, record) in table.records().zip(&records) {
+                let named = record.request.context.starts_with(&levels);
+                assert_eq!(read.request.context.begins_with(&closed), named);
+            }
+            records.retain(|record| !record.request.context.starts_with(&levels));
+            let removed = before - records.len();
+            assert_eq!(table.close(&closed), Ok(removed as u32), "{closed}");
+            assert_eq!(owned.close_bytes(&closed.to_bytes()), Ok(removed as u32));
+            let raw = raw::close(&world.image, &mut bytes, &closed.to_bytes());
+            assert_eq!(raw, Ok(removed as u32));
+            let left = images::write_table(world.stamp(), &records, blocks);
+            assert!(table.image() == left, "what is left is another table");
+            assert!(owned.image() == left && bytes == left);
+            let kind = match removed {
+                0 => "none",
+                _ if levels.is_empty() => "the whole business",
+                _ if records.is_empty() => "all",
+                _ => "some",
+            };
+            *seen.entry(kind).or_default() += 1;
+        }
+    }
+    for kind in ["none", "the whole business", "all", "some"] {
+        let times = seen.get(kind).copied().unwrap_or(0);
+        assert!(times > 50, "{kind}: {times} times");
+    }
+}
+
+/// A context's bytes: each level unused, used, without its type, without its value. `Context::read`
+/// takes and refuses just what a closing does, and a refused closing alters nothing.
+#[test]
+fn contexts_as_bytes() {
+    let rule = Rule::over([]).exclude(apart());
+    let policy = PolicyBuilder::new().rule(rule).permit(Role::of(1), step());
+    let policy = Policy::own(policy.build().unwrap()).unwrap();
+    let mut empty = policy.new_table(1).unwrap();
+    let on_record = Request::new(User::of(7), Role::of(1), step(), []);
+    let mut held = policy.new_table(1).unwrap();
+    assert!(held.decide(&on_record).unwrap().recorded);
+    let image = held.image().to_vec();
+    let mut taken = 0;
+    for pattern in 0..256 {
+        let levels = [0, 2, 4, 6].map(|at| match pattern >> at & 3 {
+            0 => [0; 4],
+            1 => [1, 0, 0xFF, 0xFF],
+            2 => [0, 0, 0, 1],
+            _ => [0, 1, 0, 0],
+        });
+        let bytes = levels.concat();
+        match Context::read(&bytes) {
+            Ok(context) => {
+                assert_eq!(context.to_bytes()[..], bytes);
+                assert_eq!(empty.close_bytes(&bytes), Ok(0));
+                taken += 1;
+            }
+            Err(refusal) => {
+                assert_eq!(refusal, Refusal::ContextField);
+                assert_eq!(held.close_bytes(&bytes), Err(refusal));
+            }
+        }
+    }
+    assert_eq!(taken, 5);
+    for length in (0..=40).filter(|&length| length != Context::LENGTH) {
+        let bytes = vec![0; length];
+        assert_eq!(Context::read(&bytes), Err(Refusal::ContextLength));
+        assert_eq!(held.close_bytes(&bytes), Err(Refusal::ContextLength));
+    }
+    assert!(held.image() == image, "a refused closing altered the table");
+    assert_eq!(held.close(&Context::WHOLE_BUSINESS), Ok(1));
+}
+
 /// Many threads preview one full table at the same time, and each gets what one alone gets.
 #[test]
 fn readers_at_once() {

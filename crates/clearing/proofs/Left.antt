@@ -1,8 +1,8 @@
--- The records that are left of those in a table: none, one more, and all of them where no rule ends.
+-- The records that are left of those in a table: of none, of one more, and all of them where no rule ends.
 -- Assumes nothing.
-use Prim.Native.Nat.{ℕ, _+_, _-_}
+use Prim.Native.Nat.{ℕ, _+_, _-_, _≤_}
 use native.Mathlib.Omega.{arith}
-use mathlib.Core.Path.{_≡_, refl, ap₂}
+use mathlib.Core.Path.{_≡_, refl, sym, ap, ap₂, _∙_}
 use mathlib.Core.Bool.{Bool, true, false, cond, not}
 use mathlib.Core.List.{List, [], _∷_, _++_, map}
 use lib.Bits.{and-zero-r, bitAnd}
@@ -19,6 +19,7 @@ use Rattle.judge.specs.NewTable.{sweep}
 use Rattle.matching.specs.declared.masks.Each.{Each}
 use Rattle.matching.specs.Masks.{apartBy, togetherBy}
 use Rattle.clearing.specs.Cleared.{keptMarks, clearedBy, leftBy}
+use Rattle.clearing.specs.Settling.{OneByOne}
 
 -- ---- lists of records
 
@@ -33,6 +34,14 @@ records-one s n = tab-next (recordHere s) n
 pub length-here : (s : List ℕ) (n : ℕ) → length (recordsHere s n) ≡ n
 unfolding recordsHere
 length-here s n = length-tab (recordHere s) 0 n
+
+-- what is left of them, record by record: of none, and of one more
+module _ {rest : List Record → List Record} (o : OneByOne rest) (s : List ℕ) where
+  pub rest-start : rest (recordsHere s 0) ≡ []
+  rest-start = ap rest (records-none s) ∙ o .nothing
+
+  pub rest-more : (i : ℕ) → rest (recordsHere s (i + 1)) ≡ rest (recordsHere s i) ++ rest (recordHere s i ∷ [])
+  rest-more i = ap rest (records-one s i) ∙ o .more (recordsHere s i) (recordHere s i)
 
 -- a record without a mark is swept away, and one with a mark stays
 pub sweep-none : (r : Record) → r .marks ≡ 0 → sweep (r ∷ []) ≡ []
@@ -51,11 +60,6 @@ length-swept r = go (eqb (r .marks) 0)
     go true = refl
     go false = refl
 
--- one record more
-pub sweep-more : (s : List ℕ) (i : ℕ) → sweep (recordsHere s (i + 1)) ≡ sweep (recordsHere s i) ++ sweep (recordHere s i ∷ [])
-unfolding sweep
-sweep-more s i = rw (records-one s i) (keep-append hasMark (recordsHere s i) (recordHere s i ∷ []))
-
 -- where no rule ends, records with marks stay as they are, whatever the masks
 pub same-records : (e : Each) (q : Request) (rs : List Record) → map (clearedBy e q 0) rs ≡ rs
 unfolding clearedBy keptMarks togetherBy
@@ -71,16 +75,16 @@ unfolding leftBy
 left-all e q rs h = rw (same-records e q rs) h
 
 module _ (e : Each) (q : Request) (ends : ℕ) where
-  pub left-start : (s : List ℕ) → leftBy e q ends (recordsHere s 0) ≡ []
+  pub left-by-one : OneByOne (leftBy e q ends)
   unfolding leftBy sweep keep
-  left-start s = rw (records-none s)
-
-  -- one record more
-  pub left-more : (s : List ℕ) (i : ℕ) → leftBy e q ends (recordsHere s (i + 1)) ≡ leftBy e q ends (recordsHere s i) ++ leftBy e q ends (recordHere s i ∷ [])
-  unfolding leftBy sweep
-  left-more s i =
-      rw (records-one s i, map-append (clearedBy e q ends) (recordsHere s i) (recordHere s i ∷ []))
-      (keep-append hasMark (map (clearedBy e q ends) (recordsHere s i)) (clearedBy e q ends (recordHere s i) ∷ []))
+  left-by-one =
+      record {
+        nothing = refl;
+        more =
+            λ rs r.
+            ap (keep hasMark) (map-append (clearedBy e q ends) rs (r ∷ []))
+            ∙ keep-append hasMark (map (clearedBy e q ends) rs) (clearedBy e q ends r ∷ []);
+      }
 
   -- one record
   pub left-none : (r : Record) → clearedBy e q ends r .marks ≡ 0 → leftBy e q ends (r ∷ []) ≡ []
@@ -90,3 +94,12 @@ module _ (e : Each) (q : Request) (ends : ℕ) where
   pub left-one : (r : Record) → (clearedBy e q ends r .marks ≡ 0 → ⊥) → leftBy e q ends (r ∷ []) ≡ clearedBy e q ends r ∷ []
   unfolding leftBy
   left-one r z = sweep-one (clearedBy e q ends r) z
+
+  -- with the marks that it keeps, which it had
+  pub left-with : (r : Record) {m : ℕ} → m ≡ clearedBy e q ends r .marks → (m ≡ 0 → ⊥)
+      → (m ≤ r .marks) × (leftBy e q ends (r ∷ []) ≡ record { request = r .request; marks = m } ∷ [])
+  unfolding clearedBy keptMarks
+  left-with r is some = (
+    omega (arith, is),
+    left-one r (λ z. some (is ∙ z)) ∙ ap {B = List Record} (λ x. record { request = r .request; marks = x } ∷ []) (sym is),
+  )

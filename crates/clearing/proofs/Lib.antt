@@ -1,3 +1,4 @@
 pub mod Left
 pub mod After
 pub mod Settled
+pub mod Closed

@@ -4,12 +4,12 @@ ghost use mathlib.Core.List.{List};
 ghost use Prim.Native.Nat.{ℕ, _+_, _≤_};
 ghost use lib.ListN.{length};
 ghost use Rattle.format.specs.Layout.{requestBytes};
+ghost use Rattle.format.specs.Table.{Record};
 ghost use Rattle.format.specs.Records.{recordsHere};
 ghost use Rattle.fields.specs.Code.{HasRoom};
 ghost use Rattle.matching.specs.Masks.{NearOf};
 ghost use Rattle.table_write.specs.Writing.{Placed};
 ghost use Rattle.clearing.specs.Cleared.{leftBy, AllMarked};
-ghost use Rattle.matching.specs.declared.masks.Each.{Each};
 ghost use Rattle.clearing.specs.Settling.{Settling, StayIn};
 use crate::ending::Ending;
 use crate::ending::block_end;
@@ -30,7 +30,7 @@ pub struct Settled {
 // Record i with what is left of its marks: it goes if that is nothing, and else is put behind those before it that have stayed.
 fn settle_record(ending: Ending, q: &[u8], table: &mut [u8], i: usize, left: Settled) -> Settled
     requires { ⌜ (length (now q) ≡ requestBytes) × (left .held ≤ i) × (HasRoom (now table) (i + 1)) ⌝ }
-    ensures { λ r. ⌜ ((s : List ℕ) → Settling (ending .each) (now (q .entry)) (ending .rules .0) s i (now (table .entry)) (left .held) (left .changed) → Settling (ending .each) (now (q .entry)) (ending .rules .0) s (i + 1) (now (table .exit)) (r .held) (r .changed)) × (r .held ≤ i + 1) ⌝ }
+    ensures { λ r. ⌜ ((s : List ℕ) → Settling (leftBy (ending .each) (now (q .entry)) (ending .rules .0)) s i (now (table .entry)) (left .held) (left .changed) → Settling (leftBy (ending .each) (now (q .entry)) (ending .rules .0)) s (i + 1) (now (table .exit)) (r .held) (r .changed)) × (r .held ≤ i + 1) ⌝ }
 {
     let held = left.held;
     let changed = left.changed;
@@ -61,7 +61,7 @@ fn settle_records(
     left: Settled,
 ) -> Settled
     requires { ⌜ (length (now q) ≡ requestBytes) × (left .held ≤ from) × (from ≤ to) × (HasRoom (now table) to) ⌝ }
-    ensures { λ r. ⌜ ((s : List ℕ) → Settling (ending .each) (now (q .entry)) (ending .rules .0) s from (now (table .entry)) (left .held) (left .changed) → Settling (ending .each) (now (q .entry)) (ending .rules .0) s to (now (table .exit)) (r .held) (r .changed)) × (r .held ≤ to) ⌝ }
+    ensures { λ r. ⌜ ((s : List ℕ) → Settling (leftBy (ending .each) (now (q .entry)) (ending .rules .0)) s from (now (table .entry)) (left .held) (left .changed) → Settling (leftBy (ending .each) (now (q .entry)) (ending .rules .0)) s to (now (table .exit)) (r .held) (r .changed)) × (r .held ≤ to) ⌝ }
 {
     let mut settled = left;
     for i in from..to {
@@ -70,10 +70,10 @@ fn settle_records(
     settled
 }
 
-// Records that keep all their marks, from one place up to another: they are put behind those before them that have stayed, if one has gone.
-fn pass_records(table: &mut [u8], from: usize, to: usize, left: Settled) -> Settled
+// Records that stay as they are, from one place up to another: they are put behind those before them that have stayed, if one has gone.
+pub fn pass_records(table: &mut [u8], from: usize, to: usize, left: Settled) -> Settled
     requires { ⌜ (left .held ≤ from) × (from ≤ to) × (HasRoom (now table) to) ⌝ }
-    ensures { λ r. ⌜ ((e : Each) (q : List ℕ) (ends : ℕ) (s : List ℕ) → StayIn e q ends s from to → Settling e q ends s from (now (table .entry)) (left .held) (left .changed) → Settling e q ends s to (now (table .exit)) (r .held) (r .changed)) × (r .held ≤ to) ⌝ }
+    ensures { λ r. ⌜ ((rest : List Record → List Record) (s : List ℕ) → StayIn rest s from to → Settling rest s from (now (table .entry)) (left .held) (left .changed) → Settling rest s to (now (table .exit)) (r .held) (r .changed)) × (r .held ≤ to) ⌝ }
 {
     let mut held = left.held;
     let mut changed = left.changed;

@@ -1,8 +1,8 @@
 -- Calls one after another, of any kind: what holds of each one holds of all.
 -- Assumes nothing.
-use mathlib.Core.Path.{_≡_, refl}
+use mathlib.Core.Path.{_≡_, refl, ap}
 use mathlib.Core.List.{List, [], _∷_, map}
-use Rattle.format.specs.Answer.{Outcome}
+use Rattle.format.specs.Answer.{Answer, Outcome}
 use Rattle.register.specs.Demand3.{answers, states, after, AtGrant, AtEvery}
 
 -- a claim that holds at the start, and that each call keeps, holds at every point
@@ -39,3 +39,22 @@ module _ {S T C : Type 0} (outer : S → C → Outcome S) (inner : T → C → O
   unfolding after
   fine-after [] t f = f
   fine-after (c ∷ cs) t f = fine-after cs (inner t c .state) (fine t f c)
+
+-- Calls that are all made in one way, from something: they are the calls of that way.
+module _ {S C D : Type 0} (step : S → D → Outcome S) (f : C → D) where
+  pub answers-map : (s : S) (cs : List C) → answers step s (map f cs) ≡ answers (λ t c. step t (f c)) s cs
+  unfolding answers
+  answers-map s [] = refl
+  answers-map s (c ∷ cs) = ap (λ (told : List Answer). step s (f c) .answer ∷ told) (answers-map (step s (f c) .state) cs)
+
+  pub states-map : (s : S) (cs : List C) → states step s (map f cs) ≡ states (λ t c. step t (f c)) s cs
+  unfolding states
+  states-map s [] = refl
+  states-map s (c ∷ cs) = ap (λ (ts : List S). s ∷ ts) (states-map (step s (f c) .state) cs)
+
+  pub every-map :
+      (AtPoint : S → Type 0) (AtStep : S → D → Type 0) (s : S) (cs : List C)
+      → AtEvery step AtPoint AtStep s (map f cs) → AtEvery (λ t c. step t (f c)) AtPoint (λ t c. AtStep t (f c)) s cs
+  unfolding AtEvery
+  every-map AtPoint AtStep s [] h = h
+  every-map AtPoint AtStep s (c ∷ cs) h = (h .0, h .1, every-map AtPoint AtStep (step s (f c) .state) cs (h .2))

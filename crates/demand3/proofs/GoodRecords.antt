@@ -1,6 +1,6 @@
 -- The records that the register prescribes are good ones: whole, with a mark, and marked only for rules that their context fits.
 -- Assumes nothing.
-use Prim.Native.Nat.{ℕ, suc, _<_, _≤_}
+use Prim.Native.Nat.{ℕ, _<_, _≤_}
 use mathlib.Core.Path.{_≡_, refl, _∙_}
 use mathlib.Core.Bool.{Bool, true, false, not, _&&_, _||_}
 use mathlib.Core.List.{List}
@@ -13,7 +13,7 @@ use lib.ListN.{length}
 use lib.Dec.{ltb}
 use lib.Pow.{pow-mono}
 use Rattle.words.specs.Lists.{keep}
-use Rattle.word_laws.proofs.Every.{Every, empty, more as also, every-weaken, every-map, every-keep, every-kept, kept-passes, every-forall, every-both}
+use Rattle.word_laws.proofs.Every.{Every, every-weaken, every-map, every-keep, every-kept, kept-passes, every-forall, every-both}
 use Rattle.word_laws.proofs.Bits.{bit-beyond, bits-below}
 use Rattle.word_laws.proofs.First.{none-first, none-second, passes-unless}
 use Rattle.word_laws.proofs.Tests.{both, both-first, allBelow-true}
@@ -25,7 +25,7 @@ use Rattle.format.specs.Fits.{fits, place}
 use Rattle.format.specs.Policy.{Policy}
 use Rattle.format.specs.Table.{marked, goodMarks, goodRecord}
 use Rattle.format_laws.proofs.TableImage.{Whole}
-use Rattle.register.specs.Run.{Entry, numbered, entriesOf, ofPlace}
+use Rattle.register.specs.Run.{Event, Entry, entriesOf, ofPlace}
 use Rattle.register.specs.Register.{runOf, lies, liesInSome}
 use Rattle.register.specs.Image.{recordFor, recordsFor}
 use Rattle.demand3.proofs.Run.{run-place}
@@ -36,13 +36,12 @@ use Rattle.demand3.proofs.Step.{has-mark, marked-for}
 abbrev pub Granted : Request → Type 0
 Granted q = requestFault q ≡ none
 
-every-entry : (P : Request → Type 0) (k : ℕ) {l : List Request} → Every P l → Every (λ x. P (x .request)) (numbered k l)
-unfolding numbered
-every-entry P k empty = empty
-every-entry P k (also h t) = also h (every-entry P (suc k) t)
+-- all requests that a list has
+abbrev pub AllGranted : List Event → Type 0
+AllGranted l = Every (λ x. Granted (x .request)) (entriesOf l)
 
 -- an entry that lies in a run of a rule fits it
-pub lies-fits : (p : Policy) (l : List Request) (i : ℕ) → Every (λ x. lies p l i x ≡ true → fits (p .rule i) (x .request) ≡ true) (entriesOf l)
+pub lies-fits : (p : Policy) (l : List Event) (i : ℕ) → Every (λ x. lies p l i x ≡ true → fits (p .rule i) (x .request) ≡ true) (entriesOf l)
 unfolding stands ofPlace runOf
 lies-fits p l i =
     every-weaken {P = λ x. (key : List ℕ) → Q key x} {Q = λ x. lies p l i x ≡ true → fits r (x .request) ≡ true}
@@ -56,9 +55,9 @@ lies-fits p l i =
     Q key x = stands p i l key x ≡ true → ofPlace r key x ≡ true
 
     each : (key : List ℕ) → Every (Q key) (entriesOf l)
-    each key = every-kept (λ x. ofPlace r key x ≡ true) (stands p i l key) (entriesOf l) (rw (run-lies p i key l) (run-place r key (entriesOf l)))
+    each key = every-kept (λ x. ofPlace r key x ≡ true) (stands p i l key) (entriesOf l) (rw (run-lies p i key l) (run-place r key l))
 
-module _ (p : Policy) (few : p .rules ≤ mostRules) (l : List Request) where
+module _ (p : Policy) (few : p .rules ≤ mostRules) (l : List Event) where
   -- the marks are those of rules that the entry fits
   marks-fit :
       (x : Entry) → ((i : ℕ) → lies p l i x ≡ true → fits (p .rule i) (x .request) ≡ true)
@@ -80,24 +79,23 @@ module _ (p : Policy) (few : p .rules ≤ mostRules) (l : List Request) where
       Granted (x .request)
       × ((i : ℕ) → lies p l i x ≡ true → fits (p .rule i) (x .request) ≡ true)
 
-  known : Every Granted l → Every (λ x. Known x × (liesInSome p l x ≡ true)) (keep (liesInSome p l) (entriesOf l))
-  unfolding entriesOf
+  known : AllGranted l → Every (λ x. Known x × (liesInSome p l x ≡ true)) (keep (liesInSome p l) (entriesOf l))
   known g =
       every-both Known (λ x. liesInSome p l x ≡ true)
       (every-keep Known (liesInSome p l)
       (every-both (λ x. Granted (x .request)) (λ x. (i : ℕ) → lies p l i x ≡ true → fits (p .rule i) (x .request) ≡ true)
-      (every-entry Granted 0 g)
+      g
       (every-forall (λ i x. lies p l i x ≡ true → fits (p .rule i) (x .request) ≡ true) (entriesOf l) (lies-fits p l))))
       (kept-passes (liesInSome p l) (entriesOf l))
 
-  pub records-good : Every Granted l → Every (λ r. goodRecord p r ≡ true) (recordsFor p l)
+  pub records-good : AllGranted l → Every (λ r. goodRecord p r ≡ true) (recordsFor p l)
   unfolding recordsFor goodRecord recordFor requestFault
   records-good g = every-map (recordFor p l) each (known g)
     where
       each : (x : Entry) → Known x × (liesInSome p l x ≡ true) → goodRecord p (recordFor p l x) ≡ true
       each x k = both (both (passes-unless _ _ (none-second _ _ (k .0 .0))) (marks-fit x (k .0 .1))) (has-mark p l x ∙ k .1)
 
-  pub records-whole : Every Granted l → Every Whole (recordsFor p l)
+  pub records-whole : AllGranted l → Every Whole (recordsFor p l)
   unfolding recordsFor recordFor requestFault
   records-whole g = every-map (recordFor p l) each (known g)
     where

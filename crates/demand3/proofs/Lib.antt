@@ -1,10 +1,13 @@
 pub mod Calls
 pub mod Run
+pub mod Found
 pub mod Lies
 pub mod Step
+pub mod Counts
 pub mod Nobody
 pub mod GoodRecords
 pub mod Demand3
+pub mod Base
 pub mod Consequences
 pub mod Previews
 pub mod Adequacy

@@ -1,58 +1,34 @@
--- Nobody reaches the forbidden number: a grant is given only where step 3 finds everyone below m, and a run grows by granted requests alone.
+-- Nobody reaches the forbidden number: a grant is given only where step 3 finds everyone below m, a run grows by granted requests alone, and a closing
+-- only takes some out of it.
 -- Assumes nothing.
-use Prim.Native.Nat.{ℕ, zero, suc, _<_, min}
-use mathlib.Core.Path.{_≡_, refl, subst}
-use mathlib.Core.Bool.{Bool, true, false, cond, _&&_}
+use Prim.Native.Nat.{ℕ, _<_}
+use mathlib.Core.Path.{_≡_, refl, sym, ap, subst, _∙_}
+use mathlib.Core.Bool.{Bool, true, false, cond, not, _&&_}
 use mathlib.Core.List.{List, [], _∷_, _++_, map, append-nil}
 use mathlib.Core.Option.{Option, none, some}
-use native.Mathlib.Nat.{min-zero}
 use native.Mathlib.Omega.{arith}
-use borrow.Author.Tests.{eqb-true, lt-leb, not-true}
-use lib.Dec.{eqb}
-use Rattle.words.specs.Lists.{keep, anyOf, sumBelow, sameList}
-use Rattle.word_laws.proofs.Keep.{keep-append, map-append}
+use borrow.Author.Tests.{eqb-true, not-true}
+use Rattle.words.specs.Lists.{keep, sameList}
+use Rattle.word_laws.proofs.Keep.{keep-append, keep-map, keep-swap, map-append}
 use Rattle.word_laws.proofs.Same.{same-eq, same-refl}
 use Rattle.word_laws.proofs.First.{none-first, none-second, passes-unless, none-at}
 use Rattle.format.specs.Answer.{Refusal, refusing}
 use Rattle.format.specs.Request.{Request, user, requestFault}
+use Rattle.format.specs.Context.{contextFault, begins}
 use Rattle.format.specs.Rule.{Rule, Exclusion}
 use Rattle.format.specs.Fits.{fits, place}
 use Rattle.format.specs.Policy.{Policy}
-use Rattle.judge.specs.Tally.{sameUser, roleTally, timesListed, timesDone, repeats, privilegeTally, tally, reached, counted}
+use Rattle.judge.specs.Tally.{sameUser, reached, counted}
 use Rattle.judge.specs.Verdict.{isLast, judges, failing, verdict}
-use Rattle.register.specs.Run.{Entry, ofPlace}
-use Rattle.register.specs.Register.{runOf, openRun, pastRun, registerFault, granted, registerStep}
+use Rattle.register.specs.Run.{Event, wasGranted, wasClosed, Entry, ofPlace, joins, afterGrant, afterClosing}
+use Rattle.register.specs.Register.{runOf, openRun, pastRun, registerFault, granted, registerStep, shut, registerClose}
 use Rattle.register.specs.Reached.{NobodyIn, standing, withStep, Nobody}
-use Rattle.register.specs.Demand3.{AtGrant, NobodyEver}
+use Rattle.register.specs.Calls.{Call, deciding, closing, registerCall}
+use Rattle.register.specs.Demand3.{AtGrant, StepCounted, NobodyEver}
 use Rattle.demand3.proofs.Calls.{at-every}
-use Rattle.demand3.proofs.Run.{next, entries-nil, run-nil, continues}
-use Rattle.demand3.proofs.Lies.{runOf-snoc}
-
--- ---- no requests, no count
-
-sum-zero : (n : ℕ) (f : ℕ → ℕ) → ((i : ℕ) → f i ≡ 0) → sumBelow n f ≡ 0
-unfolding sumBelow
-sum-zero zero f h = refl
-sum-zero (suc n) f h = rw (h n, sum-zero n f h)
-
-tally-none : (x : Exclusion) → tally x [] ≡ 0
-unfolding tally roleTally privilegeTally timesDone keep anyOf
-tally-none x = go (eqb (x .kind) 1)
-  where
-    privileges : (i : ℕ) → cond (repeats x i) 0 (min (timesListed x i) 0) ≡ 0
-    privileges i = rw (min-zero (timesListed x i)) (both (repeats x i))
-      where
-        both : (b : Bool) → _≡_ {A = ℕ} (cond b 0 0) 0
-        both true = refl
-        both false = refl
-
-    go : (b : Bool) → cond b (roleTally x []) (privilegeTally x []) ≡ 0
-    go true = sum-zero (x .n) _ (λ i. refl)
-    go false = sum-zero (x .n) _ privileges
-
-none-reached : (x : Exclusion) → 0 < x .m → reached x [] ≡ false
-unfolding reached
-none-reached x h = rw tally-none (lt-leb (x .m) 0 h)
+use Rattle.demand3.proofs.Counts.{none-reached, fewer-reached}
+use Rattle.demand3.proofs.Run.{next, run-nil}
+use Rattle.demand3.proofs.Lies.{runOf-snoc, runOf-closed}
 
 -- ---- what a verdict without refusal says
 
@@ -60,7 +36,7 @@ none-reached x h = rw tally-none (lt-leb (x .m) 0 h)
 abbrev pub Positive : Policy → Type 0
 Positive p = (i : ℕ) → i < p .rules → (e : ℕ) → e < p .rule i .exclusions → 0 < p .rule i .exclusion e .m
 
-module _ (p : Policy) (l : List Request) (q : Request) where
+module _ (p : Policy) (l : List Event) (q : Request) where
   -- the request, counted with its user's past, leaves each exclusion of a judging rule below m
   passed :
       verdict p q (openRun p l q) (pastRun p l q) ≡ none
@@ -109,10 +85,10 @@ module _ (p : Policy) (l : List Request) (q : Request) where
               (passed v i h t e k))
 
   -- after a grant: a run is as it was, or ended, or has the request with those of before
-  after-grant : Positive p → Nobody p (standing p l) → Nobody p (withStep p l q) → Nobody p (standing p (l ++ (q ∷ [])))
-  unfolding Nobody NobodyIn withStep standing keep judges openRun ofPlace
+  after-grant : Positive p → Nobody p (standing p l) → Nobody p (withStep p l q) → Nobody p (standing p (l ++ (wasGranted q ∷ [])))
+  unfolding Nobody NobodyIn withStep standing keep judges openRun ofPlace afterGrant joins
   after-grant pos before at i h e k key u =
-      rw (runOf-snoc p i l q key) (go (fits r q) refl (sameList (place r q) key) refl (isLast r q) (continues r q s) refl)
+      rw (runOf-snoc p i l q key) (go (fits r q) refl (sameList (place r q) key) refl (isLast r q) (joins r q s) refl)
     where
       r : Rule
       r = p .rule i
@@ -127,7 +103,7 @@ module _ (p : Policy) (l : List Request) (q : Request) where
       below es = reached x (keep (sameUser u) (map (λ y. y .request) es)) ≡ false
 
       go :
-          (a : Bool) → fits r q ≡ a → (b : Bool) → sameList (place r q) key ≡ b → (c d : Bool) → continues r q s ≡ d
+          (a : Bool) → fits r q ≡ a → (b : Bool) → sameList (place r q) key ≡ b → (c d : Bool) → joins r q s ≡ d
           → below (cond (a && b) (cond c [] (cond d (s ++ (next l q ∷ [])) s)) s)
       go false ta b tb c d td = before i h e k key u
       go true ta false tb c d td = before i h e k key u
@@ -135,21 +111,35 @@ module _ (p : Policy) (l : List Request) (q : Request) where
       go true ta true tb false false td = before i h e k key u
       go true ta true tb false true td = rw (map-append (λ y. y .request) s (next l q ∷ [])) (rw added at (at i h e k key u))
         where
-          added : (fits r q && continues r q (runOf p l i (place r q))) && sameList (place r q) key ≡ true
+          added : (fits r q && joins r q (runOf p l i (place r q))) && sameList (place r q) key ≡ true
           added = rw (same-eq (place r q) key tb, ta, td, same-refl key)
+
+-- ---- after a closing
+
+after-closing : (p : Policy) (l : List Event) (c : List ℕ) → Nobody p (standing p l) → Nobody p (standing p (l ++ (wasClosed c ∷ [])))
+unfolding Nobody NobodyIn standing afterClosing
+after-closing p l c before i h e k key u =
+    ap (λ (qs : List Request). reached (p .rule i .exclusion e) (keep (sameUser u) qs)) less
+    ∙ ap (reached (p .rule i .exclusion e)) (keep-swap (λ q. not (begins c q)) (sameUser u) (standing p l i key))
+    ∙ fewer-reached (p .rule i .exclusion e) (λ q. not (begins c q)) (keep (sameUser u) (standing p l i key)) (before i h e k key u)
+  where
+    less : standing p (l ++ (wasClosed c ∷ [])) i key ≡ keep (λ q. not (begins c q)) (standing p l i key)
+    less =
+        ap (map (λ (x : Entry). x .request)) (runOf-closed p i l c key)
+        ∙ sym (keep-map (λ (x : Entry). x .request) (λ q. not (begins c q)) (runOf p l i key))
 
 -- ---- at every point
 
 at-start : (p : Policy) → Positive p → Nobody p (standing p [])
 unfolding Nobody NobodyIn standing runOf keep
-at-start p pos i h e k key u = rw (entries-nil, run-nil) (none-reached (p .rule i .exclusion e) (pos i h e k))
+at-start p pos i h e k key u = rw run-nil (none-reached (p .rule i .exclusion e) (pos i h e k))
 
 -- one request
-keeps :
-    (p : Policy) (room : ℕ) → Positive p → (l : List Request) (q : List ℕ) → Nobody p (standing p l)
+keeps-deciding :
+    (p : Policy) (room : ℕ) → Positive p → (l : List Event) (q : List ℕ) → Nobody p (standing p l)
     → AtGrant (registerStep p room l q .answer) (Nobody p (withStep p l q)) × Nobody p (standing p (registerStep p room l q .state))
 unfolding AtGrant registerStep granted refusing registerFault
-keeps p room pos l q now = go (registerFault p room l q) refl
+keeps-deciding p room pos l q now = go (registerFault p room l q) refl
   where
     go :
         (f : Option Refusal) → registerFault p room l q ≡ f
@@ -159,6 +149,24 @@ keeps p room pos l q now = go (registerFault p room l q) refl
         (at, after-grant p l q pos now at)
     go (some r) e = (tt, now)
 
-pub nobody-ever : (p : Policy) (room : ℕ) → Positive p → (qs : List (List ℕ)) → NobodyEver p room [] qs
+-- one closing
+keeps-closing :
+    (p : Policy) (l : List Event) (c : List ℕ) → Nobody p (standing p l)
+    → AtGrant (registerClose p l c .answer) (Unit {0}) × Nobody p (standing p (registerClose p l c .state))
+unfolding AtGrant registerClose shut refusing
+keeps-closing p l c now = go (contextFault c)
+  where
+    go : (f : Option Refusal) → AtGrant (refusing f l (shut p l c) .answer) (Unit {0}) × Nobody p (standing p (refusing f l (shut p l c) .state))
+    go none = (tt, after-closing p l c now)
+    go (some r) = (tt, now)
+
+keeps :
+    (p : Policy) (room : ℕ) → Positive p → (l : List Event) (c : Call) → Nobody p (standing p l)
+    → AtGrant (registerCall p room l c .answer) (StepCounted p l c) × Nobody p (standing p (registerCall p room l c .state))
+unfolding registerCall StepCounted
+keeps p room pos l (deciding q) now = keeps-deciding p room pos l q now
+keeps p room pos l (closing c) now = keeps-closing p l c now
+
+pub nobody-ever : (p : Policy) (room : ℕ) → Positive p → (cs : List Call) → NobodyEver p room [] cs
 unfolding NobodyEver
-nobody-ever p room pos qs = at-every _ (λ l. Nobody p (standing p l)) (λ l q. Nobody p (withStep p l q)) (keeps p room pos) qs [] (at-start p pos)
+nobody-ever p room pos cs = at-every _ (λ l. Nobody p (standing p l)) (StepCounted p) (keeps p room pos) cs [] (at-start p pos)

@@ -20,8 +20,9 @@ use Rattle.format.specs.Calls.{checkPolicy}
 use Rattle.judge.specs.Decide.{decide}
 use Rattle.judge.specs.Sample.{samplePolicy, sampleRequests, sampleAnswers}
 use Rattle.register.specs.Register.{registerStep}
-use Rattle.register.specs.Demand3.{answers, Demand3}
-use Rattle.demand3.proofs.Demand3.{demand-3}
+use Rattle.register.specs.Demand3.{answers}
+use Rattle.register.specs.Base.{BaseDemand3}
+use Rattle.demand3.proofs.Base.{base-demand-3}
 use Rattle.demand3.proofs.Fifteen.{fifteen}
 
 pub record Session : Type 0 where
@@ -46,10 +47,10 @@ unfolding opened
 no-fault = refl
 
 pub session : Session
-unfolding Demand3
+unfolding BaseDemand3
 session =
     record {
       policy = two-rules;
-      judge = demand-3 samplePolicy no-fault 1 (omega arith) (omega arith) sampleRequests .answers-same ∙ fifteen;
+      judge = base-demand-3 samplePolicy no-fault 1 (omega arith) (omega arith) sampleRequests .answers-same ∙ fifteen;
       register = fifteen;
     }

@@ -1,33 +1,35 @@
--- One request: where the table's records are those that the register prescribes, the judge and the register say the same and leave the same.
--- This holds of every list of requests, whether decisions lead to it or not.
+-- One request, and one closing: where the table's records are those that the register prescribes, the judge and the register say the same and leave the
+-- same. This holds of every list of grants and closings, whether calls lead to it or not.
 -- Assumes nothing.
 use Prim.Native.Nat.{ℕ, _+_, _<_, _≤_}
 use mathlib.Core.Path.{_≡_, refl, sym, ap, _∙_}
-use mathlib.Core.Bool.{Bool, true, false, cond, not, _&&_, and-false}
+use mathlib.Core.Bool.{Bool, true, false, cond, not, _&&_, and-false, and-true}
 use mathlib.Core.List.{List, [], _∷_, _++_, map}
 use mathlib.Core.Option.{Option, none}
 use native.Mathlib.Omega.{arith}
 use lib.ListN.{length, length-append, length-map}
 use Rattle.words.specs.Lists.{keep, nonEmpty, sameList}
 use Rattle.words.specs.First.{_orElse_, unless}
-use Rattle.word_laws.proofs.Every.{every-all, every-weaken, keep-same, map-same, every-keep}
+use Rattle.word_laws.proofs.Every.{Every, every-all, every-weaken, every-forall, every-both, keep-same, map-same, every-keep, kept-passes}
 use Rattle.word_laws.proofs.Keep.{keep-append, keep-keep, keep-map, keep-split, anyOf-keep, nonEmpty-map, map-map, map-append}
-use Rattle.word_laws.proofs.Bits.{bit-bits, bits-same, bits-some, anyBelow-same, anyBelow-at, anyBelow-both}
+use Rattle.word_laws.proofs.Bits.{bit-bits, bits-same, bits-some, anyBelow-same, anyBelow-at, anyBelow-both, anyBelow-and}
 use Rattle.word_laws.proofs.First.{first-same}
 use Rattle.format.specs.Answer.{grant, Refusal, refusal}
 use Rattle.format.specs.Request.{Request, requestFault}
+use Rattle.format.specs.Context.{begins}
 use Rattle.format.specs.Fits.{place, samePlace}
 use Rattle.format.specs.Policy.{Policy}
 use Rattle.format.specs.Table.{Record, marked, hasMark}
 use Rattle.judge.specs.Verdict.{judges, failing, permitted, verdict}
 use Rattle.judge.specs.NewTable.{standsIn, openIn, pastIn, ends, gives, recordOf, cleared, sweep, newTable, grantOf, tableAfter, judgeFault}
-use Rattle.register.specs.Run.{Entry, entriesOf}
+use Rattle.register.specs.Run.{Event, wasGranted, wasClosed, Entry, entriesOf}
+use Rattle.judge.specs.Close.{closed, closedOut}
 use Rattle.register.specs.Register.{runOf, openRun, pastRun, lies, liesInSome, heldOf, removedOf, recordedOf, registerFault}
 use Rattle.register.specs.Image.{recordFor, recordsFor}
-use Rattle.demand3.proofs.Run.{next, entries-snoc, entries-before}
-use Rattle.demand3.proofs.Lies.{lies-old, lies-new, stands, run-lies}
+use Rattle.demand3.proofs.Run.{next, entries-snoc, entries-closed, entries-before}
+use Rattle.demand3.proofs.Lies.{lies-old, lies-new, lies-closed, stands, run-lies}
 
-module _ (p : Policy) (l : List Request) where
+module _ (p : Policy) (l : List Event) where
   -- a record of the image is marked for the rules in whose runs the entry lies
   pub marked-for : (i : ℕ) (x : Entry) → i < p .rules → marked i (recordFor p l x) ≡ lies p l i x
   unfolding recordFor
@@ -79,9 +81,9 @@ module _ (p : Policy) (l : List Request) where
       each i a b = let h : i < p .rules = omega arith in rw (open-same q i h, past-same q i h)
 
 -- step 4, for whatever says which run places are open, as long as it says it of the rules alike
-module _ (p : Policy) (l : List Request) (q : Request) where
-  after : List Request
-  after = l ++ (q ∷ [])
+module _ (p : Policy) (l : List Event) (q : Request) where
+  after : List Event
+  after = l ++ (wasGranted q ∷ [])
 
   opened : ℕ → Bool
   opened = openIn p (recordsFor p l) q
@@ -102,7 +104,7 @@ module _ (p : Policy) (l : List Request) (q : Request) where
       each :
           (i : ℕ) → i < p .rules
           → marked i (recordFor p l x) && not (ends p q opened i && samePlace (p .rule i) q (x .request))
-          ≡ lies p (l ++ (q ∷ [])) i x
+          ≡ lies p (l ++ (wasGranted q ∷ [])) i x
       each i k = rw (marked-for p l i x k, ends-same i k) (sym (lies-old p i l q x h))
 
   record-new : recordOf p q opened ≡ recordFor p after (next l q)
@@ -113,7 +115,7 @@ module _ (p : Policy) (l : List Request) (q : Request) where
   lies-shrink : (x : Entry) → x .at < length l → liesInSome p l x && liesInSome p after x ≡ liesInSome p after x
   unfolding liesInSome after
   lies-shrink x h =
-      rw (anyBelow-same (p .rules) (λ i. lies p (l ++ (q ∷ [])) i x) (λ i. lies p l i x && not (ends p q (openRun p l q) i && samePlace (p .rule i) q (x .request))) (λ i k. lies-old p i l q x h))
+      rw (anyBelow-same (p .rules) (λ i. lies p (l ++ (wasGranted q ∷ [])) i x) (λ i. lies p l i x && not (ends p q (openRun p l q) i && samePlace (p .rule i) q (x .request))) (λ i k. lies-old p i l q x h))
       (anyBelow-both (p .rules) (λ i. lies p l i x) (λ i. not (ends p q (openRun p l q) i && samePlace (p .rule i) q (x .request))))
 
   -- the records of before, cleared, by any test of what is left
@@ -146,15 +148,15 @@ module _ (p : Policy) (l : List Request) (q : Request) where
       go false = refl
 
   -- step 4: the new table is the one that the register prescribes
-  pub table-same : tableAfter p (recordsFor p l) q ≡ recordsFor p (l ++ (q ∷ []))
+  pub table-same : tableAfter p (recordsFor p l) q ≡ recordsFor p (l ++ (wasGranted q ∷ []))
   unfolding tableAfter newTable recordsFor after opened
   table-same =
       rw (entries-snoc l q, keep-append (liesInSome p after) (entriesOf l) (next l q ∷ []), map-append)
       (cc (swept-old, swept-new))
 
   -- held
-  pub held-same : length (tableAfter p (recordsFor p l) q) ≡ heldOf p (l ++ (q ∷ []))
-  held-same = ap length table-same ∙ records-held p (l ++ (q ∷ []))
+  pub held-same : length (tableAfter p (recordsFor p l) q) ≡ heldOf p (l ++ (wasGranted q ∷ []))
+  held-same = ap length table-same ∙ records-held p (l ++ (wasGranted q ∷ []))
 
   -- recorded and removed
   recorded-same : length (sweep (recordOf p q opened ∷ [])) ≡ recordedOf p l q
@@ -165,7 +167,7 @@ module _ (p : Policy) (l : List Request) (q : Request) where
       go true = refl
       go false = refl
 
-  removed-same : length (keep (λ r. not (hasMark r)) (map (cleared p q opened) (recordsFor p l))) ≡ removedOf p l (l ++ (q ∷ []))
+  removed-same : length (keep (λ r. not (hasMark r)) (map (cleared p q opened) (recordsFor p l))) ≡ removedOf p l (l ++ (wasGranted q ∷ []))
   unfolding removedOf after
   removed-same =
       rw (cleared-kept (λ r. not (hasMark r)), length-map)
@@ -174,7 +176,7 @@ module _ (p : Policy) (l : List Request) (q : Request) where
   -- the three numbers of a grant
   pub grant-same :
       grantOf p q (openIn p (recordsFor p l) q) (recordsFor p l)
-      ≡ grant (recordedOf p l q) (removedOf p l (l ++ (q ∷ []))) (heldOf p (l ++ (q ∷ [])))
+      ≡ grant (recordedOf p l q) (removedOf p l (l ++ (wasGranted q ∷ []))) (heldOf p (l ++ (wasGranted q ∷ [])))
   unfolding grantOf opened tableAfter
   grant-same = rw (recorded-same, removed-same, held-same)
 
@@ -208,6 +210,71 @@ module _ (p : Policy) (l : List Request) (q : Request) where
       go true = refl
       go false = refl
 
-  pub balance : heldOf p l + recordedOf p l q ≡ removedOf p l (l ++ (q ∷ [])) + heldOf p (l ++ (q ∷ []))
+  pub balance : heldOf p l + recordedOf p l q ≡ removedOf p l (l ++ (wasGranted q ∷ [])) + heldOf p (l ++ (wasGranted q ∷ []))
   unfolding after
   balance = omega (arith, stay-or-go, held-now)
+
+-- ---- one closing
+
+module _ (p : Policy) (l : List Event) (c : List ℕ) where
+  shut : List Event
+  shut = l ++ (wasClosed c ∷ [])
+
+  stays : Entry → Bool
+  stays x = not (begins c (x .request))
+
+  -- an entry lies in the runs in which it lay, and in none if it is named
+  still-lies : Every (λ x. (i : ℕ) → lies p shut i x ≡ lies p l i x && stays x) (entriesOf l)
+  unfolding shut stays
+  still-lies = every-forall (λ i x. lies p shut i x ≡ lies p l i x && stays x) (entriesOf l) (λ i. lies-closed p i l c)
+
+  still-in-some : Every (λ x. liesInSome p shut x ≡ liesInSome p l x && stays x) (entriesOf l)
+  unfolding liesInSome
+  still-in-some =
+      every-weaken {P = λ x. (i : ℕ) → lies p shut i x ≡ lies p l i x && stays x} {Q = λ x. liesInSome p shut x ≡ liesInSome p l x && stays x}
+      (λ x h. anyBelow-same (p .rules) _ (λ i. lies p l i x && stays x) (λ i k. h i) ∙ anyBelow-and (p .rules) (λ i. lies p l i x) (stays x))
+      still-lies
+
+  -- the record of one that is not named is as it was
+  record-kept : Every (λ x. stays x ≡ true → recordFor p shut x ≡ recordFor p l x) (entriesOf l)
+  unfolding recordFor
+  record-kept =
+      every-weaken {P = λ x. (i : ℕ) → lies p shut i x ≡ lies p l i x && stays x} {Q = λ x. stays x ≡ true → recordFor p shut x ≡ recordFor p l x}
+      (λ x h e. ap (λ (m : ℕ). record { request = x .request; marks = m }) (bits-same (p .rules) _ _ (λ i k. h i ∙ rw e (and-true (lies p l i x)))))
+      still-lies
+
+  -- the records that the closing leaves are those that the register prescribes
+  pub closed-same : closed c (recordsFor p l) ≡ recordsFor p (l ++ (wasClosed c ∷ []))
+  unfolding closed recordsFor recordFor shut stays
+  closed-same =
+      keep-map (recordFor p l) (λ r. not (begins c (r .request))) (keep (liesInSome p l) (entriesOf l))
+      ∙ sym (map-same (recordFor p shut) (recordFor p l)
+      (every-weaken {P = λ x. (stays x ≡ true → recordFor p shut x ≡ recordFor p l x) × (stays x ≡ true)} {Q = λ x. recordFor p shut x ≡ recordFor p l x}
+      (λ x h. h .0 (h .1))
+      (every-both _ _ (every-keep _ stays (every-keep _ (liesInSome p l) record-kept)) (kept-passes stays (keep (liesInSome p l) (entriesOf l))))))
+      ∙ ap (map (recordFor p shut))
+      (keep-keep (liesInSome p l) stays (entriesOf l)
+      ∙ sym (keep-same (liesInSome p shut) (λ x. liesInSome p l x && stays x) still-in-some)
+      ∙ ap (keep (liesInSome p shut)) (sym (entries-closed l c)))
+
+  -- the number removed
+  pub closed-out-same : closedOut c (recordsFor p l) ≡ removedOf p l (l ++ (wasClosed c ∷ []))
+  unfolding closedOut removedOf recordsFor recordFor shut stays
+  closed-out-same =
+      rw (keep-map (recordFor p l) (λ r. begins c (r .request)) (keep (liesInSome p l) (entriesOf l)), length-map, keep-keep (liesInSome p l) (λ x. begins c (x .request)) (entriesOf l))
+      (ap length (keep-same _ _ (every-weaken {P = λ x. liesInSome p shut x ≡ liesInSome p l x && stays x} {Q = λ x. liesInSome p l x && begins c (x .request) ≡ liesInSome p l x && not (liesInSome p shut x)} gone still-in-some)))
+    where
+      gone : (x : Entry) → liesInSome p shut x ≡ liesInSome p l x && stays x → liesInSome p l x && begins c (x .request) ≡ liesInSome p l x && not (liesInSome p shut x)
+      gone x h = rw h (go (liesInSome p l x) (begins c (x .request)))
+        where
+          go : (a b : Bool) → a && b ≡ a && not (a && not b)
+          go false b = refl
+          go true true = refl
+          go true false = refl
+
+  -- what was held is removed or still held
+  pub balance-closed : heldOf p l ≡ removedOf p l (l ++ (wasClosed c ∷ [])) + heldOf p (l ++ (wasClosed c ∷ []))
+  unfolding closed closedOut
+  balance-closed =
+      rw (← closed-out-same, ← records-held p (l ++ (wasClosed c ∷ [])), ← records-held p l, ← closed-same)
+      (sym (keep-split (λ r. begins c (r .request)) (recordsFor p l)))

@@ -4,7 +4,7 @@ use Prim.Native.Nat.{ℕ, _+_, _*_, _/_, _≤_, _<_}
 use mathlib.Core.Path.{_≡_, refl, sym, ap, _∙_}
 use mathlib.Core.Bool.{Bool, true, false, _&&_}
 use mathlib.Core.List.{List, []}
-use mathlib.Core.Option.{Option, none, some}
+use mathlib.Core.Option.{none, some}
 use native.Mathlib.Omega.{arith}
 use borrow.Author.Tests.{eqb-true, leb-true}
 use lib.ListN.{length, getD}
@@ -15,7 +15,6 @@ use Rattle.table_write.proofs.SliceBytes.{slice-bytes}
 use lib.Seq.{take-all}
 use lib.Dec.{eqb, leb}
 use Rattle.policy_check.proofs.Lengths.{Blocked, good-blocked, policy-blocked}
-use Rattle.words.specs.First.{_orElse_}
 use Rattle.words.specs.Bytes.{part}
 use Rattle.words.specs.Sums.{Sums, sums, words}
 use Rattle.word_laws.proofs.First.{none-first, passes-unless, none-orElse, unless-passes, unless-fails}
@@ -26,6 +25,7 @@ use Rattle.format.specs.Block.{blocks, goodLength}
 use Rattle.format.specs.Policy.{policyFault, ruleCount, stamp}
 use Rattle.format.specs.Table.{tableFault, tableLengthFault, recordsOf, tableImage, freshTable}
 use Rattle.format.specs.Calls.{checkPolicy, checkTable, makeTable}
+use Rattle.engine.proofs.Rows.{first-some}
 
 -- ---- a policy
 
@@ -38,10 +38,6 @@ unfolding checkPolicy accepting
 policy-accepted s n e h = rw (e, h)
 
 -- ---- a table
-
-first-some : (a b : Option Refusal) (r : Refusal) → a ≡ some r → a orElse b ≡ some r
-unfolding _orElse_
-first-some a b r e = rw e
 
 module _ (policy table : List ℕ) where
   pub table-policy : (r : Refusal) → policyFault policy ≡ some r → refuse r ≡ checkTable policy table

@@ -1,15 +1,14 @@
 -- What `decide` comes to, by the first row that applies: a refusal with the table as it was, or the judgement's grant and table.
 -- Assumes nothing.
 use Prim.Native.Nat.{ℕ}
-use mathlib.Core.Path.{_≡_, refl, sym, ap, _∙_}
+use mathlib.Core.Path.{_≡_, _∙_}
 use mathlib.Core.Bool.{Bool, true, false}
 use mathlib.Core.List.{List}
-use mathlib.Core.Option.{Option, none, some}
-use Rattle.words.specs.First.{_orElse_}
+use mathlib.Core.Option.{none, some}
 use lib.ListN.{length}
 use lib.Dec.{leb}
 use Rattle.word_laws.proofs.First.{none-orElse, unless-passes, unless-fails}
-use Rattle.format.specs.Answer.{Answer, refuse, Refusal, refusal, refusing}
+use Rattle.format.specs.Answer.{refuse, Refusal, refusal, refusing}
 use Rattle.format.specs.Layout.{capacity}
 use Rattle.format.specs.Block.{blocks}
 use Rattle.format.specs.Request.{requestFault}
@@ -18,15 +17,12 @@ use Rattle.format.specs.Table.{Record, tableFault, tableImage, recordsOf}
 use Rattle.judge.specs.NewTable.{judgeFault, judge, grantOf, openIn, pastIn, tableAfter}
 use Rattle.judge.specs.Verdict.{verdict}
 use Rattle.judge.specs.Decide.{decideFault, decide}
+use Rattle.engine.proofs.Rows.{first-some, policy-row, table-row, next-row, refused}
 
 module _ (policy table request : List ℕ) where
-  refused : (r : Refusal) → decideFault policy table request ≡ some r → record { answer = refuse r; state = table } ≡ decide policy table request
-  unfolding decide refusing
-  refused r e = rw e
-
-  first-some : (a b : Option Refusal) (r : Refusal) → a ≡ some r → a orElse b ≡ some r
-  unfolding _orElse_
-  first-some a b r e = rw e
+  refuses : (r : Refusal) → decideFault policy table request ≡ some r → record { answer = refuse r; state = table } ≡ decide policy table request
+  unfolding decide
+  refuses r e = refused (decideFault policy table request) table _ r e
 
   clear-is :
       verdict (policyOf policy) request (openIn (policyOf policy) (recordsOf table) request) (pastIn (policyOf policy) (recordsOf table) request) ≡ none
@@ -37,19 +33,17 @@ module _ (policy table request : List ℕ) where
 
   pub by-policy : (r : Refusal) → policyFault policy ≡ some r → record { answer = refuse r; state = table } ≡ decide policy table request
   unfolding decideFault
-  by-policy r e = refused r (first-some (policyFault policy) _ r e)
+  by-policy r e = refuses r (policy-row policy table _ r e)
 
   module _ (policy-good : policyFault policy ≡ none) where
     pub by-table : (r : Refusal) → tableFault policy table ≡ some r → record { answer = refuse r; state = table } ≡ decide policy table request
     unfolding decideFault
-    by-table r e = refused r (none-orElse (policyFault policy) _ policy-good ∙ first-some (tableFault policy table) _ r e)
+    by-table r e = refuses r (table-row policy table _ policy-good r e)
 
     module _ (table-good : tableFault policy table ≡ none) where
       pub by-request : (r : Refusal) → requestFault request ≡ some r → record { answer = refuse r; state = table } ≡ decide policy table request
       unfolding decideFault
-      by-request r e =
-          refused r
-          (none-orElse (policyFault policy) _ policy-good ∙ none-orElse (tableFault policy table) _ table-good ∙ first-some (requestFault request) _ r e)
+      by-request r e = refuses r (next-row policy table _ policy-good table-good ∙ first-some (requestFault request) _ r e)
 
       -- a good request is for the judge: what its verdict and step 5 say
       module _ (request-good : requestFault request ≡ none) where
@@ -64,22 +58,20 @@ module _ (policy table request : List ℕ) where
 
         fault-is : decideFault policy table request ≡ judgeFault p (capacity (blocks table)) rs request
         unfolding decideFault p rs
-        fault-is =
-            none-orElse (policyFault policy) _ policy-good ∙ none-orElse (tableFault policy table) _ table-good
-            ∙ none-orElse (requestFault request) _ request-good
+        fault-is = next-row policy table _ policy-good table-good ∙ none-orElse (requestFault request) _ request-good
 
         pub by-verdict :
             (r : Refusal) → verdict (policyOf policy) request (openIn (policyOf policy) (recordsOf table) request) (pastIn (policyOf policy) (recordsOf table) request) ≡ some r
             → record { answer = refuse r; state = table } ≡ decide policy table request
         unfolding judgeFault p rs
-        by-verdict r e = refused r (fault-is ∙ first-some _ _ r e)
+        by-verdict r e = refuses r (fault-is ∙ first-some _ _ r e)
 
         module _ (passed : verdict (policyOf policy) request (openIn (policyOf policy) (recordsOf table) request) (pastIn (policyOf policy) (recordsOf table) request) ≡ none) where
           pub by-size :
               leb (length (tableAfter (policyOf policy) (recordsOf table) request)) (capacity (blocks table)) ≡ false
               → record { answer = refuse (refusal 34 0 0); state = table } ≡ decide policy table request
           unfolding judgeFault p rs
-          by-size e = refused (refusal 34 0 0) (fault-is ∙ none-orElse _ _ passed ∙ unless-fails (refusal 34 0 0) e)
+          by-size e = refuses (refusal 34 0 0) (fault-is ∙ none-orElse _ _ passed ∙ unless-fails (refusal 34 0 0) e)
 
           pub granted :
               leb (length (tableAfter (policyOf policy) (recordsOf table) request)) (capacity (blocks table)) ≡ true

@@ -1,26 +1,22 @@
 -- From what the code's steps promise, over the records that stand in the table, to what `decide` says, over the records that the table means.
 -- Assumes nothing.
 use Prim.Native.Nat.{ℕ}
-use mathlib.Core.Path.{_≡_, refl, ap, _∙_}
+use mathlib.Core.Path.{_≡_, refl}
 use mathlib.Core.Bool.{Bool, true, false}
 use mathlib.Core.List.{List}
 use mathlib.Core.Option.{none}
-use borrow.Author.Tests.{eqb-true}
 use lib.ListN.{length}
 use lib.Dec.{leb}
 use Rattle.words.specs.First.{unless}
-use Rattle.word_laws.proofs.First.{none-first, passes-unless}
-use Rattle.format.specs.Answer.{Answer, Outcome, refusing}
+use Rattle.format.specs.Answer.{refusing}
 use Rattle.format.specs.Layout.{requestBytes, capacity}
 use Rattle.format.specs.Block.{blocks}
 use Rattle.format.specs.Request.{requestFault}
 use Rattle.format.specs.Policy.{policyFault, policyOf}
 use Rattle.format.specs.Table.{tableFault, recordsOf}
-use Rattle.format.specs.Altered.{alteredBlocks}
 use Rattle.judge.specs.Verdict.{verdict}
 use Rattle.judge.specs.NewTable.{openIn, pastIn, tableAfter}
 use Rattle.judge.specs.Decide.{decide}
-use Rattle.judge.specs.Written.{decidedBlocks}
 use Rattle.words.specs.Sums.{Sums}
 use Rattle.format.specs.Code.{faultOf}
 use Rattle.matching.specs.declared.masks.Each.{Each}
@@ -29,12 +25,12 @@ use Rattle.verdict.specs.declared.verdicts.Verdict.{Verdict}
 use Rattle.verdict.specs.Code.{VerdictIs}
 use Rattle.update.specs.Updating.{updateOf}
 use Rattle.update.proofs.Standing.{Standing}
-use Rattle.engine.specs.Code.{outcome}
+use Rattle.engine.proofs.Rows.{first-length}
 use Rattle.engine.proofs.Decided.{by-size, granted}
 
 pub request-length : (q : List ℕ) → requestFault q ≡ none → length q ≡ requestBytes
 unfolding requestFault
-request-length q e = eqb-true (length q) requestBytes (passes-unless _ _ (none-first _ _ e))
+request-length q e = first-length q requestBytes _ _ e
 
 -- the verdict over the records that stand in the table is the one over those that it means
 module _ (policy table : List ℕ) (t : Sums) (n : ℕ) (standing : Standing policy t table n) (q : List ℕ) (e : Each) (v : Verdict) where
@@ -57,11 +53,3 @@ update-is policy table q p t r v = go (leb (length (tableAfter (policyOf policy)
     go : (b : Bool) → leb (length (tableAfter (policyOf policy) (recordsOf table) q)) (capacity (blocks table)) ≡ b → updateOf policy table q ≡ decide policy table q
     go true e = rw e (granted policy table q p t r v e)
     go false e = rw e (by-size policy table q p t r v e)
-
--- the blocks that a decision has written are those of which the table that it leaves has other records
-pub counted :
-    (policy table q : List ℕ) {a : Answer} {s : List ℕ} {c : ℕ} → outcome a s ≡ decide policy table q → c ≡ alteredBlocks (blocks table) (recordsOf table) (recordsOf s)
-    → c ≡ decidedBlocks policy table q
-unfolding decidedBlocks
-counted policy table q is written =
-    written ∙ ap (λ (o : Outcome (List ℕ)). alteredBlocks (blocks table) (recordsOf table) (recordsOf (o .state))) is

@@ -1,3 +1,5 @@
+pub mod Rows
 pub mod Checked
 pub mod Decided
 pub mod Judged
+pub mod Closed

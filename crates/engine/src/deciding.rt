@@ -11,7 +11,7 @@ use crate::reply::reply_of;
 use update::foreseeing::foresee;
 use update::grant::update;
 
-// A decision, and how many blocks of the table it wrote.
+// What a decision or a closing answers, and how many blocks of the table it wrote.
 pub struct Counted {
     pub reply: Reply,
     pub written: usize,

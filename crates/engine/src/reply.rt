@@ -6,7 +6,7 @@ use format::answer::Grant;
 use format::answer::Refusal;
 use update::grant::Updated;
 
-// Acceptance with a policy's rules, a table's records or a fresh table's places; a grant; or a refusal.
+// Acceptance with a policy's rules, a table's records, a fresh table's places or the records that a closing removed; a grant; or a refusal.
 pub enum Reply {
     Accepted(u32),
     Granted(Grant),

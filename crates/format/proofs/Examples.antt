@@ -22,6 +22,7 @@ use Rattle.format.specs.Layout.{permissionKind}
 use Rattle.format.specs.Block.{blocks, block, kind, number, total, goodLength, checkOf, goodCheck, sumBytes, sealed}
 use Rattle.format.specs.Request.{Request, user, roles as activeRoles, operation, target, hasRole, contextOf, levelType, levelValue, usedLevel}
 use Rattle.format.specs.Request.{blankLevel, depthOf, goodContext, goodRequest, requestFault}
+use Rattle.format.specs.Context.{contextFault, sameLevel, begins}
 use Rattle.format.specs.Rule.{Rule, Level, Exclusion, Privilege, Step, ruleAt, goodMark, goodLevel, blankLevel as blankRuleLevel, goodStep}
 use Rattle.format.specs.Rule.{goodSteps, goodRule, goodRoles, goodPrivileges, goodExclusion, blankExclusion, goodRuleBytes, goodExclusionAt}
 use Rattle.format.specs.Rule.{ruleFault}
@@ -37,7 +38,7 @@ use Rattle.format.specs.Calls.{checkPolicy, checkTable, makeTable}
 -- what these examples compute with
 opened : Unit {0}
 unfolding flatten allBelow anyBelow sumBelow tab sameList _orElse_ unless first zeroFrom bit sums addWords addWord words accepting refusing goodLength
-    checkOf goodCheck sumBytes sealed hasRole usedLevel blankLevel depthOf goodContext goodRequest requestFault ruleAt goodMark goodLevel
+    checkOf goodCheck sumBytes sealed hasRole usedLevel blankLevel depthOf goodContext goodRequest requestFault contextFault sameLevel begins ruleAt goodMark goodLevel
     blankRuleLevel goodStep goodSteps goodRule goodRoles goodPrivileges goodExclusion blankExclusion goodRuleBytes goodExclusionAt ruleFault fits
     levelFits place placeValue samePlace goodPermission goodPermissionBytes permissionFault goodPolicyHeader policyBlockFault policyFault ruleCount
     permissionsAt policyOf stamp goodMarks goodRecord recordAt gap goodTableHeader goodStamp tableBlockFault tableLengthFault tableFault recordsOf
@@ -81,6 +82,33 @@ pub requests :
     ≡ replicate 2 (some (refusal 21 0 0)) ∷ replicate 5 (some (refusal 22 0 0)) ∷ (none ∷ []) ∷ []
 unfolding opened
 requests = refl
+
+-- W2, a context by itself: "a length other than 16 gives 21, a bad context 22", in this order. 15 bytes, 17, and 17 with a gap, a request's 28; then 22 for
+-- a gap and for a type with no value; and good ones: no level at all, one, four
+pub contexts-by-themselves :
+    map (map contextFault)
+    ((zeros 15 ∷ zeros 17 ∷ (context (0 ∷ 0 ∷ 1 ∷ 5 ∷ []) ++ zeros 1) ∷ asked (1 ∷ 5 ∷ []) ∷ [])
+    ∷ (context (0 ∷ 0 ∷ 1 ∷ 5 ∷ []) ∷ context (1 ∷ 0 ∷ []) ∷ [])
+    ∷ (context [] ∷ context (1 ∷ 5 ∷ []) ∷ context (1 ∷ 5 ∷ 2 ∷ 90 ∷ 3 ∷ 7 ∷ 4 ∷ 8 ∷ []) ∷ [])
+    ∷ [])
+    ≡ replicate 4 (some (refusal 21 0 0)) ∷ replicate 2 (some (refusal 22 0 0)) ∷ replicate 3 none ∷ []
+unfolding opened
+contexts-by-themselves = refl
+
+-- "Every record whose context begins with those levels". Of depot 5, job 90: the same levels, and deeper ones; a shallower context and no level do not, nor
+-- the same values under another type, at either level, nor other values. Of four levels, only all four. Of no level, every request
+pub beginnings :
+    map (map (λ q. begins (context (1 ∷ 5 ∷ 2 ∷ 90 ∷ [])) (asked q)))
+    (((1 ∷ 5 ∷ 2 ∷ 90 ∷ []) ∷ (1 ∷ 5 ∷ 2 ∷ 90 ∷ 3 ∷ 7 ∷ []) ∷ (1 ∷ 5 ∷ 2 ∷ 90 ∷ 3 ∷ 7 ∷ 4 ∷ 8 ∷ []) ∷ [])
+    ∷ ((1 ∷ 5 ∷ []) ∷ [] ∷ (1 ∷ 5 ∷ 3 ∷ 90 ∷ []) ∷ (4 ∷ 5 ∷ 2 ∷ 90 ∷ []) ∷ (1 ∷ 5 ∷ 2 ∷ 91 ∷ []) ∷ (1 ∷ 6 ∷ 2 ∷ 90 ∷ []) ∷ (2 ∷ 90 ∷ 1 ∷ 5 ∷ []) ∷ [])
+    ∷ [])
+    ++ (map (λ q. begins (context (1 ∷ 5 ∷ 2 ∷ 90 ∷ 3 ∷ 7 ∷ 4 ∷ 8 ∷ [])) (asked q))
+    ((1 ∷ 5 ∷ 2 ∷ 90 ∷ 3 ∷ 7 ∷ 4 ∷ 8 ∷ []) ∷ (1 ∷ 5 ∷ 2 ∷ 90 ∷ 3 ∷ 7 ∷ 4 ∷ 9 ∷ []) ∷ (1 ∷ 5 ∷ 2 ∷ 90 ∷ 3 ∷ 7 ∷ []) ∷ [])
+    ∷ map (λ q. begins (context []) (asked q)) ([] ∷ (1 ∷ 5 ∷ []) ∷ (1 ∷ 5 ∷ 2 ∷ 90 ∷ 3 ∷ 7 ∷ 4 ∷ 8 ∷ []) ∷ [])
+    ∷ [])
+    ≡ replicate 3 true ∷ replicate 7 false ∷ (true ∷ false ∷ false ∷ []) ∷ replicate 3 true ∷ []
+unfolding opened
+beginnings = refl
 
 -- "role k is bit k - 1": roles 1, 2, 31 and 32 of a request with the roles 1 and 32
 pub roles-by-bit : map (λ k. hasRole k (request 7 2147483649 1 1 [])) (1 ∷ 2 ∷ 31 ∷ 32 ∷ []) ≡ true ∷ false ∷ false ∷ true ∷ []

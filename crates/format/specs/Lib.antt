@@ -3,6 +3,7 @@ pub mod Layout
 pub mod Block
 pub mod Request
 pub mod Rule
+pub mod Context
 pub mod Fits
 pub mod Policy
 pub mod Table

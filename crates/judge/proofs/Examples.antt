@@ -1,4 +1,4 @@
--- Worked examples of the judge: the tally, the verdict of steps 1 to 3, the new table of steps 4 and 5, and decide on bytes. Each is broken by one of this
+-- Worked examples of the judge: the tally, the verdict of steps 1 to 3, the new table of steps 4 and 5, closings, and decide on bytes. Each is broken by one of this
 -- crate's must-fail edits. No edit alters the sample session (Sample): it is the paper's data, and its fifteen lines are proved in crate demand3. Nor timesDone, permitted, isLast, recordOf, tableAfter: edits put something else in their place
 -- where they are used. How many blocks a decision writes (decidedBlocks) is told by alteredBlocks, which has its examples in crate format: computed from a
 -- table's bytes it would cost seconds at each edit that breaks it.
@@ -12,9 +12,10 @@ use lib.ListN.{length, getD, drop}
 use Rattle.words.specs.Lists.{keep, anyOf, allBelow, anyBelow, sumBelow, tab, sameList}
 use Rattle.words.specs.First.{_orElse_, unless, first}
 use Rattle.words.specs.Bytes.{bytes2, bytes4, zeros, bit, bits}
-use Rattle.format.specs.Answer.{Refusal, refusal, Answer, grant, refuse, Outcome, refusing}
+use Rattle.format.specs.Answer.{Refusal, refusal, Answer, accept, grant, refuse, Outcome, refusing}
 use Rattle.format.specs.Block.{blocks, goodLength}
 use Rattle.format.specs.Request.{Request, hasRole, usedLevel, depthOf, requestFault}
+use Rattle.format.specs.Context.{contextFault, sameLevel, begins}
 use Rattle.format.specs.Rule.{Rule, Level, Exclusion, Privilege, Step}
 use Rattle.format.specs.Fits.{fits, levelFits, place, placeValue, samePlace}
 use Rattle.format.specs.Policy.{Policy, Permission}
@@ -29,13 +30,15 @@ use Rattle.judge.specs.NewTable.{standsIn, openIn, pastIn, ends, gives, 
 use Rattle.judge.specs.NewTable.{judge}
 use Rattle.judge.specs.Decide.{decideFault, decide}
 use Rattle.judge.specs.Preview.{preview}
-use Rattle.judge.specs.Written.{decidedBlocks}
+use Rattle.judge.specs.Close.{closed, closedOut, closeFault, close as closing}
+use Rattle.judge.specs.Written.{decidedBlocks, closedBlocks}
 
 -- what these examples compute with
 opened : Unit {0}
 unfolding keep anyOf allBelow anyBelow sumBelow tab sameList _orElse_ unless first bit bits refusing hasRole usedLevel depthOf fits levelFits place
     placeValue samePlace sameUser does countsFor roleTally timesListed timesDone repeats privilegeTally tally reached exclusionNumber counted grants permitted
     isFirst isLast judges failing verdict standsIn openIn pastIn ends gives recordOf cleared sweep newTable grantOf tableAfter judgeFault judge
+    sameLevel begins closed closedOut
 opened = tt
 
 -- ---- the pieces: the depots (type 1), jobs (type 2), operations and rules of document 01's trial run
@@ -322,6 +325,81 @@ pub refusals-keep-the-table :
     ≡ map (λ r. record { answer = refuse r; state = full }) (refusal 31 0 0 ∷ refusal 33 1 1 ∷ refusal 32 2 1 ∷ refusal 34 0 0 ∷ [])
 unfolding opened
 refusals-keep-the-table = refl
+
+-- ---- W2, closing a context
+
+-- records of the depot 5, of two of its jobs, of a job of the depot 6, and of the whole business
+abbrev scattered : List Record
+scattered =
+    kept 2 (begin 10 (depot 5))
+    ∷ kept 1 (adjust 7 (job 5 90))
+    ∷ kept 3 (adjust 8 (job 6 90))
+    ∷ kept 3 (check 9 (job 5 91))
+    ∷ kept 1 (adjust 7 (job 5 90))
+    ∷ kept 2 (check 9 business)
+    ∷ []
+
+-- the depot 5 closed, with its jobs; the job 90 of the depot 5; a job that no record has; no level at all, which names every record
+abbrev closings : List (List ℕ)
+closings = depot 5 ∷ job 5 90 ∷ job 5 92 ∷ business ∷ []
+
+-- "Other records keep the marks they had."
+pub closed-marks : map (λ c. map (λ r. r .marks) (closed c scattered)) closings ≡ (3 ∷ 2 ∷ []) ∷ (2 ∷ 3 ∷ 3 ∷ 2 ∷ []) ∷ (2 ∷ 1 ∷ 3 ∷ 3 ∷ 1 ∷ 2 ∷ []) ∷ [] ∷ []
+unfolding opened
+closed-marks = refl
+
+-- "Every record whose context begins with those levels is removed"; the others keep their order
+pub closed-records :
+    map (λ c. closed c scattered) closings
+    ≡ (kept 3 (adjust 8 (job 6 90)) ∷ kept 2 (check 9 business) ∷ [])
+    ∷ (kept 2 (begin 10 (depot 5)) ∷ kept 3 (adjust 8 (job 6 90)) ∷ kept 3 (check 9 (job 5 91)) ∷ kept 2 (check 9 business) ∷ [])
+    ∷ scattered
+    ∷ []
+    ∷ []
+unfolding opened
+closed-records = refl
+
+-- "the number removed is returned", 0 where it is none
+pub closed-numbers : map (λ c. closedOut c scattered) closings ≡ 4 ∷ 2 ∷ 0 ∷ 6 ∷ []
+unfolding opened
+closed-numbers = refl
+
+-- on bytes: no policy, no context, and a table of two bytes give 1, and the table stays
+pub closing-policy : closing [] (7 ∷ 8 ∷ []) [] ≡ record { answer = refuse (refusal 1 0 0); state = 7 ∷ 8 ∷ [] }
+unfolding closeFault closing policyFault goodLength refusing _orElse_ unless
+closing-policy = refl
+
+-- "After the table's numbers": under any policy that passes, the table of two bytes gets its number before a context of no byte
+pub closing-table :
+    (policy : List ℕ) → policyFault policy ≡ none → closing policy (7 ∷ 8 ∷ []) [] ≡ record { answer = refuse (refusal 11 0 0); state = 7 ∷ 8 ∷ [] }
+unfolding closeFault closing tableFault tableLengthFault goodLength contextFault refusing _orElse_ unless
+closing-table policy passes = rw passes refl
+
+-- any policy, table and context of which policy and table pass
+module _ (policy table context : List ℕ) (passes : policyFault policy ≡ none) (good : tableFault policy table ≡ none) where
+  -- the numbers of a context come last; the table's bytes stay
+  pub closing-context : (r : Refusal) → contextFault context ≡ some r → closing policy table context ≡ record { answer = refuse r; state = table }
+  unfolding closeFault closing refusing _orElse_
+  closing-context r f = rw (passes, good, f) refl
+
+  -- a closing is accepted with the number removed, and the bytes are the image of the records that stay
+  pub closing-accepted :
+      contextFault context ≡ none
+      → closing policy table context
+      ≡ record {
+        answer = accept (closedOut context (recordsOf table));
+        state = tableImage (stamp policy) (blocks table) (closed context (recordsOf table));
+      }
+  unfolding closeFault closing refusing _orElse_
+  closing-accepted f = rw (passes, good, f) refl
+
+  -- it writes the blocks in which these are others than the lent table's
+  pub blocks-of-a-closing :
+      contextFault context ≡ none
+      → closedBlocks policy table context
+      ≡ alteredBlocks (blocks table) (recordsOf table) (recordsOf (tableImage (stamp policy) (blocks table) (closed context (recordsOf table))))
+  unfolding closedBlocks
+  blocks-of-a-closing f = ap (λ o. alteredBlocks (blocks table) (recordsOf table) (recordsOf (o .state))) (closing-accepted f)
 
 -- ---- decide, on bytes
 

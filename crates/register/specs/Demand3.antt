@@ -1,14 +1,15 @@
 -- Demand 3, the claim, in plain words:
 --
--- Take any policy that passes its check, any number of blocks b from 1 to 128, and any list of requests, whatever the bytes and length of each, empty
--- or of any length. Put the requests one after another to `decide`, the first with the table made fresh under the policy, each other with the table
--- as the last one left it. Put the same requests to the full register, which starts with no grant, forgets none and never sees the table. Then
+-- Take any policy that passes its check, any number of blocks b from 1 to 128, and any list of decisions and closings, whatever the bytes and length of
+-- each request and context, empty or of any length. Put the calls one after another to the engine, the first with the table made fresh under the
+-- policy, each other with the table as the last one left it. Put the same calls to the full register, which starts with an empty list, forgets no
+-- grant and no closing and never sees the table. Then
 --   answers: each answer of the engine, its numbers included, is the register's;
 --   tables:  at the start and after each call the table is, byte by byte, the image that the register prescribes: the grants that some rule still
 --            counts, in the order granted, marked for exactly those rules;
 --   nobody:  at no point has any user reached the forbidden number in any run of a rule, the step just granted counted in.
 --
--- The proof is crates/demand3/proofs/Demand3.antt.
+-- The proof is crates/demand3/proofs/Demand3.antt. What document 01 claims of decisions alone follows: Base.antt.
 -- Assumes nothing.
 use Prim.Native.Nat.{ℕ, _≤_}
 use mathlib.Core.Path.{_≡_}
@@ -16,13 +17,12 @@ use mathlib.Core.List.{List, [], _∷_, map}
 use mathlib.Core.Option.{none}
 use Rattle.format.specs.Answer.{Answer, accept, grant, refuse, Outcome}
 use Rattle.format.specs.Layout.{capacity, tableBlocks}
-use Rattle.format.specs.Request.{Request}
 use Rattle.format.specs.Policy.{Policy, policyFault, policyOf}
 use Rattle.format.specs.Table.{freshTable}
-use Rattle.judge.specs.Decide.{decide}
-use Rattle.register.specs.Register.{registerStep}
+use Rattle.register.specs.Run.{Event}
 use Rattle.register.specs.Image.{registerImage}
 use Rattle.register.specs.Reached.{standing, withStep, Nobody}
+use Rattle.register.specs.Calls.{Call, deciding, closing, callStep, registerCall}
 
 -- ---- calls one after another, each on the state that the last one left
 
@@ -55,22 +55,27 @@ AtEvery step AtPoint AtStep s (c ∷ cs) =
 
 -- ---- nobody has reached the forbidden number, at any point, "the step just granted counted in"
 
-unfoldable pub NobodyEver : Policy → ℕ → List Request → List (List ℕ) → Type 0
-NobodyEver p room l qs = AtEvery (registerStep p room) (λ l′. Nobody p (standing p l′)) (λ l′ q. Nobody p (withStep p l′ q)) l qs
+-- the step that a call takes, counted in: a closing takes none
+unfoldable pub StepCounted : Policy → List Event → Call → Type 0
+StepCounted p l (deciding q) = Nobody p (withStep p l q)
+StepCounted p l (closing c) = Unit {0}
+
+unfoldable pub NobodyEver : Policy → ℕ → List Event → List Call → Type 0
+NobodyEver p room l cs = AtEvery (registerCall p room) (λ l′. Nobody p (standing p l′)) (StepCounted p) l cs
 
 -- ---- the claim
 
-pub record Kept (policy : List ℕ) (b : ℕ) (requests : List (List ℕ)) : Type 0 where
+pub record Kept (policy : List ℕ) (b : ℕ) (calls : List Call) : Type 0 where
   pub answers-same :
-      answers (decide policy) (freshTable policy b) requests
-      ≡ answers (registerStep (policyOf policy) (capacity b)) [] requests
+      answers (callStep policy) (freshTable policy b) calls
+      ≡ answers (registerCall (policyOf policy) (capacity b)) [] calls
   pub tables-same :
-      states (decide policy) (freshTable policy b) requests
-      ≡ map (registerImage policy b) (states (registerStep (policyOf policy) (capacity b)) [] requests)
-  pub nobody : NobodyEver (policyOf policy) (capacity b) [] requests
+      states (callStep policy) (freshTable policy b) calls
+      ≡ map (registerImage policy b) (states (registerCall (policyOf policy) (capacity b)) [] calls)
+  pub nobody : NobodyEver (policyOf policy) (capacity b) [] calls
 
 unfoldable pub Demand3 : Type 0
 Demand3 =
     (policy : List ℕ) → policyFault policy ≡ none
     → (b : ℕ) → 1 ≤ b → b ≤ tableBlocks
-    → (requests : List (List ℕ)) → Kept policy b requests
+    → (calls : List Call) → Kept policy b calls

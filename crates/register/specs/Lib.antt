@@ -2,6 +2,8 @@ pub mod Run
 pub mod Register
 pub mod Image
 pub mod Reached
+pub mod Calls
 pub mod Demand3
+pub mod Base
 pub mod Consequences
 pub mod Previews

@@ -11,6 +11,7 @@ use Rattle.format.specs.Fits.{place}
 use Rattle.format.specs.Policy.{Policy}
 use Rattle.judge.specs.Tally.{sameUser, reached}
 use Rattle.judge.specs.Verdict.{judges}
+use Rattle.register.specs.Run.{Event}
 use Rattle.register.specs.Register.{runOf, openRun}
 
 -- nobody has reached m of the exclusion over these requests
@@ -18,11 +19,11 @@ unfoldable pub NobodyIn : Exclusion → List Request → Type 0
 NobodyIn x qs = (u : ℕ) → reached x (keep (sameUser u) qs) ≡ false
 
 -- "at every other point, the run as it stands"
-unfoldable pub standing : Policy → List Request → ℕ → List ℕ → List Request
+unfoldable pub standing : Policy → List Event → ℕ → List ℕ → List Request
 standing p l i key = map (λ x. x .request) (runOf p l i key)
 
 -- "At a grant this means the run before it, with the request added if the rule judges it in that run place"
-unfoldable pub withStep : Policy → List Request → Request → ℕ → List ℕ → List Request
+unfoldable pub withStep : Policy → List Event → Request → ℕ → List ℕ → List Request
 withStep p l q i key =
     standing p l i key ++ cond (judges (p .rule i) q (openRun p l q i) && sameList (place (p .rule i) q) key) (q ∷ []) []
 

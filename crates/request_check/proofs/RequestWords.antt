@@ -4,7 +4,7 @@ use Prim.Native.Nat.{ℕ, _+_, _*_, _/_, _%_, _<_}
 use native.Mathlib.Nat.{add-zero, add-assoc}
 use native.Mathlib.Omega.{arith}
 use mathlib.Core.Path.{_≡_, refl, sym, ap, _∙_}
-use mathlib.Core.Bool.{Bool, true, false, not, cond, _&&_, _||_, and-assoc, and-true, or-true}
+use mathlib.Core.Bool.{Bool, true, false, not, cond, _&&_, _||_, and-true, or-true}
 use mathlib.Core.List.{List}
 use lib.ListN.{getD}
 use lib.Dec.{eqb}
@@ -12,7 +12,7 @@ use borrow.Author.Tests.{eq-eqb, ne-eqb, eqb-true, eqb-false}
 use Rattle.words.specs.Lists.{allBelow, sumBelow}
 use Rattle.words.specs.Bytes.{u16At, u32At, part}
 use Rattle.word_laws.proofs.Bytes.{Byte}
-use Rattle.word_laws.proofs.Parts.{part-part, u16At-part, u32At-part}
+use Rattle.word_laws.proofs.Parts.{part-part, u16At-part}
 use Rattle.format.specs.Rule.{fullPrivilege}
 use Rattle.fields.specs.Code.{doneBy}
 use Rattle.format.specs.Request.{Request, user, roles, operation, target, contextOf, levelType, levelValue, usedLevel, blankLevel, depthOf, goodContext, goodRequest}
@@ -26,17 +26,14 @@ low-half a b c d ha hb = omega arith
 high-half : (a b c d : ℕ) → Byte a → Byte b → (a + 256 * b + 65536 * c + 16777216 * d) / 65536 ≡ c + 256 * d
 high-half a b c d ha hb = omega arith
 
--- a number is 0 where both its halves are
-both-zero : (x y : ℕ) → eqb x 0 && eqb y 0 ≡ eqb (x + 65536 * y) 0
-both-zero x y = go (eqb x 0) refl (eqb y 0) refl
+-- two are the same where both their halves are
+pub halves-same : (x y : ℕ) → eqb (x % 65536) (y % 65536) && eqb (x / 65536) (y / 65536) ≡ eqb x y
+halves-same x y = go (eqb (x % 65536) (y % 65536)) refl (eqb (x / 65536) (y / 65536)) refl
   where
-    go : (p : Bool) → eqb x 0 ≡ p → (q : Bool) → eqb y 0 ≡ q → p && q ≡ eqb (x + 65536 * y) 0
-    go true e true f = sym (eq-eqb (x + 65536 * y) 0 (omega (arith, eqb-true x 0 e, eqb-true y 0 f)))
-    go true e false f = sym (ne-eqb (x + 65536 * y) 0 (λ z. eqb-false y 0 f (omega arith)))
-    go false e q f = sym (ne-eqb (x + 65536 * y) 0 (λ z. eqb-false x 0 e (omega arith)))
-
-halves-zero : (x : ℕ) → eqb (x % 65536) 0 && eqb (x / 65536) 0 ≡ eqb x 0
-halves-zero x = let e : x % 65536 + 65536 * (x / 65536) ≡ x = omega arith in both-zero (x % 65536) (x / 65536) ∙ rw e
+    go : (p : Bool) → eqb (x % 65536) (y % 65536) ≡ p → (q : Bool) → eqb (x / 65536) (y / 65536) ≡ q → p && q ≡ eqb x y
+    go true e true f = sym (eq-eqb x y (omega (arith, eqb-true (x % 65536) (y % 65536) e, eqb-true (x / 65536) (y / 65536) f)))
+    go true e false f = sym (ne-eqb x y (λ z. eqb-false (x / 65536) (y / 65536) f (ap (λ (n : ℕ). n / 65536) z)))
+    go false e q f = sym (ne-eqb x y (λ z. eqb-false (x % 65536) (y % 65536) e (ap (λ (n : ℕ). n % 65536) z)))
 
 module _ (s : List ℕ) (bytes : (i : ℕ) → Byte (getD s i 0)) where
   pub low : (i : ℕ) → u32At s i % 65536 ≡ u16At s i
@@ -62,7 +59,7 @@ module _ (s : List ℕ) (bytes : (i : ℕ) → Byte (getD s i 0)) where
 
     blank-level : blankLevel (part s at 16) i ≡ eqb (u32At s (at + 4 * i)) 0
     unfolding blankLevel
-    blank-level = rw (level-type, level-value) (halves-zero (u32At s (at + 4 * i)))
+    blank-level = rw (level-type, level-value) (halves-same (u32At s (at + 4 * i)) 0)
 
   pub context-words : (at : ℕ) → goodContext (part s at 16) ≡ goodLevelWords (u32At s at) (u32At s (at + 4)) (u32At s (at + 8)) (u32At s (at + 12))
   unfolding goodContext goodLevelWords allBelow
@@ -133,10 +130,6 @@ module _ (s : List ℕ) (at i : ℕ) (four : i < 4) (bytes : (j : ℕ) → Byte 
 
   pub value-word : levelValue (contextOf (part s at 28)) i ≡ u32At s (at + 12 + 4 * i) / 65536
   value-word = rw (context-at s at) (level-value s bytes (at + 12) i four)
-
-pub depth-at : (s : List ℕ) (at : ℕ) → ((i : ℕ) → Byte (getD s i 0))
-    → depthOf (contextOf (part s at 28)) ≡ usedWords (u32At s (at + 12)) (u32At s (at + 12 + 4)) (u32At s (at + 12 + 8)) (u32At s (at + 12 + 12))
-depth-at s at bytes = rw (context-at s at) (depth-words s bytes (at + 12))
 
 -- the tests of a request one after the other, where they are the outcomes of these parts
 pub request-parts : (q : Request)

@@ -1,2 +1,3 @@
-// The check of a request.
+// The check of a request, and of a context.
+pub mod context;
 pub mod request;

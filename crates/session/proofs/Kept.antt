@@ -1,4 +1,4 @@
--- From `make_table` and `decide`, as the code promises them, to the register: demand 3.
+-- From `make_table`, `decide` and `close`, as the code promises them, to the register: demand 3.
 -- Assumes nothing.
 use Prim.Native.Nat.{ℕ}
 use mathlib.Core.Path.{_≡_, refl, sym, ap, _∙_}
@@ -13,7 +13,7 @@ use Rattle.format.specs.Block.{blocks}
 use Rattle.format.specs.Policy.{policyFault}
 use Rattle.format.specs.Table.{tableLengthFault, freshTable}
 use Rattle.format.specs.Calls.{makeTable}
-use Rattle.judge.specs.Decide.{decide}
+use Rattle.register.specs.Calls.{Call, callStep}
 use Rattle.register.specs.Demand3.{answers, after, Kept, Demand3}
 use Rattle.demand3.proofs.Demand3.{demand-3, last-table}
 use Rattle.demand3.proofs.Consequences.{untouched}
@@ -45,24 +45,24 @@ module _ (policy buffer : List ℕ) where
     unfolding tableLengthFault
     sized = good-blocked 128 buffer (passes-unless _ _ (none-second (policyFault policy) _ (accepted-none n e)))
 
-    -- demand 3, of a table and answers that `decide` leaves
+    -- demand 3, of a table and answers that the calls leave
     as-register :
-        (requests : List (List ℕ)) (out table : List ℕ)
-        → table ≡ after (decide policy) (makeTable policy buffer .state) requests
-        → out ≡ written (answers (decide policy) (makeTable policy buffer .state) requests)
-        → AsRegister policy (blocks buffer) requests out table
+        (calls : List Call) (out table : List ℕ)
+        → table ≡ after (callStep policy) (makeTable policy buffer .state) calls
+        → out ≡ written (answers (callStep policy) (makeTable policy buffer .state) calls)
+        → AsRegister policy (blocks buffer) calls out table
     unfolding Demand3
-    as-register requests out table t o =
+    as-register calls out table t o =
         record {
           answers-same = o ∙ rw fresh-state (ap written (kept .answers-same));
-          table-same = t ∙ rw fresh-state (last-table policy policy-passed (blocks buffer) (sized .1) (sized .2) requests);
+          table-same = t ∙ rw fresh-state (last-table policy policy-passed (blocks buffer) (sized .1) (sized .2) calls);
           nobody = kept .nobody;
         }
       where
-        kept : Kept policy (blocks buffer) requests
-        kept = demand-3 policy policy-passed (blocks buffer) (sized .1) (sized .2) requests
+        kept : Kept policy (blocks buffer) calls
+        kept = demand-3 policy policy-passed (blocks buffer) (sized .1) (sized .2) calls
 
-  module _ (requests : List (List ℕ)) (before : List ℕ) (reply : Answer) (fresh : List ℕ)
+  module _ (calls : List Call) (before : List ℕ) (reply : Answer) (fresh : List ℕ)
       (h : record { answer = reply; state = fresh } ≡ makeTable policy buffer) where
     answer-is : reply ≡ makeTable policy buffer .answer
     answer-is = ap (λ (o : Outcome (List ℕ)). o .answer) h
@@ -70,18 +70,18 @@ module _ (policy buffer : List ℕ) where
     state-is : fresh ≡ makeTable policy buffer .state
     state-is = ap (λ (o : Outcome (List ℕ)). o .state) h
 
-    pub ran-decided :
+    pub ran-called :
         (n : ℕ) → reply ≡ accept n → (out table : List ℕ)
-        → table ≡ after (decide policy) fresh requests → out ≡ written (answers (decide policy) fresh requests)
-        → Ran policy buffer requests before reply out table
-    ran-decided n e out table t o =
+        → table ≡ after (callStep policy) fresh calls → out ≡ written (answers (callStep policy) fresh calls)
+        → Ran policy buffer calls before reply out table
+    ran-called n e out table t o =
         record {
           made = answer-is;
           refused = λ r x. absurd (let z : _≡_ {A = ℕ} 0 1 = cc in omega arith);
-          kept = λ m x. as-register m (sym answer-is ∙ x) requests out table (rw state-is at t) (rw state-is at o);
+          kept = λ m x. as-register m (sym answer-is ∙ x) calls out table (rw state-is at t) (rw state-is at o);
         }
 
-    pub ran-refused : ((n : ℕ) → reply ≡ accept n → ⊥) → Ran policy buffer requests before reply before fresh
+    pub ran-refused : ((n : ℕ) → reply ≡ accept n → ⊥) → Ran policy buffer calls before reply before fresh
     ran-refused never =
         record {
           made = answer-is;

@@ -1,18 +1,19 @@
-// A table made fresh, and the requests of any lengths decided on it one after another.
+// A table made fresh, and decisions and closings of any lengths put to it one after another.
 ghost use mathlib.Core.Path.{_≡_};
 ghost use mathlib.Core.List.{[], _∷_};
 ghost use Prim.Native.Nat.{_+_, _-_, _*_, _≤_, min};
 ghost use lib.ListN.{length};
 ghost use lib.Seq.{sets};
-ghost use Rattle.judge.specs.Decide.{decide as decideOf};
+ghost use Rattle.register.specs.Calls.{callStep};
 ghost use Rattle.register.specs.Demand3.{answers as answersOf, after};
-ghost use Rattle.engine.specs.Code.{answerOf};
-ghost use Rattle.session.specs.Session.{cut, fourNumbers, written, Ran};
+ghost use Rattle.engine.specs.Code.{answerOf, outcome};
+ghost use Rattle.session.specs.Session.{callOf, cut, fourNumbers, written, Ran};
 use engine::checks::make_table;
+use engine::closing::close;
 use engine::deciding::decide;
 use engine::reply::Reply;
 
-// Where a request of n bytes ends that begins at a byte of these many.
+// Where a piece of n bytes ends that begins at a byte of these many.
 fn end_of(bytes: usize, at: usize, n: usize) -> usize
     requires { ⌜ at ≤ bytes ⌝ }
     ensures { λ r. ⌜ r ≡ at + min n (bytes - at) ⌝ }
@@ -46,42 +47,55 @@ fn put_answer(answers: &mut [u32], at: usize, answer: Reply)
     }
 }
 
-// Decides the requests one after another, each on the table as the last one left it.
-fn decide_each(
+// One call to the engine, of its kind.
+fn call(policy: &[u8], table: &mut [u8], kind: u8, bytes: &[u8]) -> Reply
+    ensures { λ r. ⌜ outcome (answerOf r) (now (table .exit)) ≡ callStep (now (policy .entry)) (now (table .entry)) (callOf kind (now (bytes .entry))) ⌝ }
+{
+    if kind == 0 {
+        return decide(policy, table, bytes);
+    }
+    close(policy, table, bytes)
+}
+
+// The calls one after another, each on the table as the last one left it.
+fn call_each(
     policy: &[u8],
     table: &mut [u8],
-    requests: &[u8],
+    kinds: &[u8],
     lengths: &[usize],
+    bytes: &[u8],
     answers: &mut [u32],
 )
-    requires { ⌜ length (now answers) ≡ 4 * length (now lengths) ⌝ }
-    ensures { λ r. ⌜ now (table .exit) ≡ after (decideOf (now (policy .entry))) (now (table .entry)) (cut (now (requests .entry)) (now (lengths .entry))) ⌝ }
-    ensures { λ r. ⌜ now (answers .exit) ≡ written (answersOf (decideOf (now (policy .entry))) (now (table .entry)) (cut (now (requests .entry)) (now (lengths .entry)))) ⌝ }
+    requires { ⌜ (length (now kinds) ≡ length (now lengths)) × (length (now answers) ≡ 4 * length (now lengths)) ⌝ }
+    ensures { λ r. ⌜ now (table .exit) ≡ after (callStep (now (policy .entry))) (now (table .entry)) (cut (now (kinds .entry)) (now (lengths .entry)) (now (bytes .entry))) ⌝ }
+    ensures { λ r. ⌜ now (answers .exit) ≡ written (answersOf (callStep (now (policy .entry))) (now (table .entry)) (cut (now (kinds .entry)) (now (lengths .entry)) (now (bytes .entry)))) ⌝ }
 {
     let mut at: usize = 0;
     for i in 0..lengths.len() {
-        let end = end_of(requests.len(), at, lengths[i]);
-        let answer = decide(policy, table, &requests[at..end]);
+        let end = end_of(bytes.len(), at, lengths[i]);
+        let answer = call(policy, table, kinds[i], &bytes[at..end]);
         put_answer(answers, 4 * i, answer);
         at = end;
     }
 }
 
-// Makes the table fresh under the policy, puts the requests to `decide` one after another, and writes each answer's four numbers.
+// Makes the table fresh under the policy, puts the calls to the engine one after another, and writes each answer's four numbers. The calls' bytes stand
+// one after another; a call has its kind, 0 for a decision and any other for a closing, and the length of its request or context.
 pub fn run(
     policy: &[u8],
     table: &mut [u8],
-    requests: &[u8],
+    kinds: &[u8],
     lengths: &[usize],
+    bytes: &[u8],
     answers: &mut [u32],
 ) -> Reply
-    requires { ⌜ length (now answers) ≡ 4 * length (now lengths) ⌝ }
-    ensures { λ r. ⌜ Ran (now (policy .entry)) (now (table .entry)) (cut (now (requests .entry)) (now (lengths .entry))) (now (answers .entry)) (answerOf r) (now (answers .exit)) (now (table .exit)) ⌝ }
+    requires { ⌜ (length (now kinds) ≡ length (now lengths)) × (length (now answers) ≡ 4 * length (now lengths)) ⌝ }
+    ensures { λ r. ⌜ Ran (now (policy .entry)) (now (table .entry)) (cut (now (kinds .entry)) (now (lengths .entry)) (now (bytes .entry))) (now (answers .entry)) (answerOf r) (now (answers .exit)) (now (table .exit)) ⌝ }
 {
     let made = make_table(policy, table);
     match made {
         Reply::Accepted(_) => {
-            decide_each(policy, table, requests, lengths, answers);
+            call_each(policy, table, kinds, lengths, bytes, answers);
             made
         }
         Reply::Granted(_) => made,

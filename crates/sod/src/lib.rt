@@ -1,6 +1,7 @@
-// The boundary for other languages: the five entry points as C functions, and one struct by value. include/sod.h says what a caller owes.
+// The boundary for other languages: the six entry points as C functions, and one struct by value. include/sod.h says what a caller owes.
 ghost use mathlib.Core.Path.{_≡_};
 ghost use Rattle.format.specs.Calls.{checkPolicy, checkTable, makeTable};
+ghost use Rattle.judge.specs.Close.{close as closeOf};
 ghost use Rattle.judge.specs.Decide.{decide as decideOf};
 ghost use Rattle.judge.specs.Preview.{preview as previewOf};
 ghost use Rattle.engine.specs.Code.{answerOf};
@@ -9,6 +10,7 @@ ghost use Rattle.sod.specs.Code.{fourOf, left};
 use engine::checks::check_policy;
 use engine::checks::check_table;
 use engine::checks::make_table;
+use engine::closing::close;
 use engine::deciding::decide;
 use engine::deciding::preview;
 use engine::reply::Reply;
@@ -81,4 +83,11 @@ pub extern "C" fn sod_preview(policy: &[u8], table: &[u8], request: &[u8]) -> So
     ensures { λ r. ⌜ fourOf r ≡ four (previewOf (now (policy .entry)) (now (table .entry)) (now (request .entry))) ⌝ }
 {
     reply_of(preview(policy, table, request))
+}
+
+#[no_mangle]
+pub extern "C" fn sod_close(policy: &[u8], table: &mut [u8], context: &[u8]) -> SodReply
+    ensures { λ r. ⌜ left (fourOf r) (now (table .exit)) ≡ left (four (closeOf (now (policy .entry)) (now (table .entry)) (now (context .entry)) .answer)) (closeOf (now (policy .entry)) (now (table .entry)) (now (context .entry)) .state) ⌝ }
+{
+    reply_of(close(policy, table, context))
 }

@@ -1,10 +1,10 @@
 -- The table after a grant: the request put behind the records that are left, the records that it then has, and the blocks that need not be written.
 -- Assumes nothing.
-use Prim.Native.Nat.{ℕ, _+_, _-_, _/_, _<_, _≤_}
+use Prim.Native.Nat.{ℕ, _+_, _/_, _<_}
 use native.Mathlib.Omega.{arith}
-use mathlib.Core.Path.{_≡_, refl, sym, ap, ap₂, _∙_}
-use mathlib.Core.Bool.{cond}
-use mathlib.Core.List.{List, [], _∷_, _++_, append-nil, map}
+use mathlib.Core.Path.{_≡_, sym, ap, ap₂, _∙_}
+use mathlib.Core.Bool.{cond, not, _||_}
+use mathlib.Core.List.{List, [], _∷_, _++_, append-nil}
 use lib.Dec.{eqb}
 use lib.ListN.{length}
 use Rattle.words.specs.Sums.{Sums}
@@ -18,12 +18,12 @@ use Rattle.format.specs.Records.{recordsHere}
 use Rattle.format.specs.Altered.{alteredBlocks}
 use Rattle.format_laws.proofs.RecordImage.{Whole}
 use Rattle.judge.specs.NewTable.{sweep}
-use Rattle.fields.specs.Code.{HasRoom, noBlock}
+use Rattle.fields.specs.Code.{HasRoom, hasBlock}
 use Rattle.fields.specs.declared.blocks.BlockSet.{BlockSet}
 use Rattle.matching.specs.declared.masks.Each.{Each}
-use Rattle.table_write.specs.Writing.{Placed, Noted, ImageBut, sizeOf}
-use Rattle.table_write.proofs.Records.{recordPut, records-more, records-whole}
-use Rattle.table_write.proofs.Placed.{placed-put}
+use Rattle.table_write.specs.Writing.{countIn, Placed, Noted, sizeOf}
+use Rattle.table_write.proofs.Records.{recordPut, records-more}
+use Rattle.table_write.proofs.Placed.{placed-put, placed-size}
 use Rattle.clearing.specs.Cleared.{keptMarks, clearedBy, leftBy, afterBy}
 use Rattle.clearing.proofs.Left.{length-here, sweep-none, sweep-one}
 use Rattle.clearing.proofs.After.{after-length, recorded-one}
@@ -76,20 +76,21 @@ module _ (e : Each) (q : Request) (ends : ℕ) (gives : ℕ) where
     unfolding afterBy
     after-here = appended ∙ ap (λ (rs : List Record). rs ++ sweep (record { request = q; marks = gives } ∷ [])) left
 
-    pub after-held : held ≡ length (afterBy e q ends gives (recordsHere s n))
-    after-held = sym (length-here t′ held) ∙ ap length after-here
+-- ---- the table written around the records rs that stand in t, which was s
 
-    pub after-image :
-        (x : Sums) → length t′ ≡ length s → {t″ : List ℕ} → t″ ≡ tableImage x (blocks t′) (recordsHere t′ held)
-        → t″ ≡ tableImage x (blocks s) (afterBy e q ends gives (recordsHere s n))
-    after-image x long is = is ∙ ap₂ {C = List ℕ} (tableImage x) (ap (λ (l : ℕ). l / blockBytes) long) after-here
+module _ {s t : List ℕ} {j : ℕ} {set : BlockSet} (p : Placed s t j set) {rs : List Record} (here : recordsHere t j ≡ rs) where
+  pub written-held : j ≡ length rs
+  written-held = sym (length-here t j) ∙ ap length here
 
-    pub after-altered :
-        length t′ ≡ length s → {c : ℕ} (set : BlockSet) → c ≡ sizeOf (blocks t′) set
-        → sizeOf (blocks s) set ≡ alteredBlocks (blocks s) (recordsHere s n) (recordsHere t′ held)
-        → c ≡ alteredBlocks (blocks s) (recordsHere s n) (afterBy e q ends gives (recordsHere s n))
-    after-altered long set is size =
-        is
-        ∙ ap (λ (l : ℕ). sizeOf (l / blockBytes) set) long
-        ∙ size
-        ∙ ap (alteredBlocks (blocks s) (recordsHere s n)) after-here
+  pub written-image : (x : Sums) {t′ : List ℕ} → t′ ≡ tableImage x (blocks t) (recordsHere t j) → t′ ≡ tableImage x (blocks s) rs
+  written-image x is = is ∙ ap₂ {C = List ℕ} (tableImage x) (ap (λ (l : ℕ). l / blockBytes) (p .long)) here
+
+  -- of n records before
+  pub written-altered :
+      (n : ℕ) (set′ : BlockSet) → ((k : ℕ) → hasBlock set′ k ≡ not (eqb (countIn n k) (countIn j k)) || hasBlock set k)
+      → {c : ℕ} → c ≡ sizeOf (blocks t) set′ → c ≡ alteredBlocks (blocks s) (recordsHere s n) rs
+  written-altered n set′ resized is =
+      is
+      ∙ ap (λ (l : ℕ). sizeOf (l / blockBytes) set′) (p .long)
+      ∙ placed-size p n set′ resized (blocks s)
+      ∙ ap (alteredBlocks (blocks s) (recordsHere s n)) here

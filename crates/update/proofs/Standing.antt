@@ -1,6 +1,6 @@
 -- An accepted table is the image of the n records that stand in it, and they are those that it says.
 -- Assumes nothing.
-use Prim.Native.Nat.{ℕ}
+use Prim.Native.Nat.{ℕ, _≤_}
 use native.Mathlib.Omega.{arith}
 use mathlib.Core.Path.{_≡_, refl, sym, ap, ap₂, _∙_}
 use mathlib.Core.Bool.{true, _&&_}
@@ -12,12 +12,15 @@ use Rattle.words.specs.Sums.{Sums}
 use Rattle.word_laws.proofs.Every.{Every, empty, more}
 use Rattle.word_laws.proofs.Bytes.{Byte}
 use Rattle.word_laws.proofs.Tests.{both-second}
+use Rattle.format.specs.Layout.{capacity}
 use Rattle.format.specs.Block.{blocks}
 use Rattle.format.specs.Request.{goodRequest}
 use Rattle.format.specs.Policy.{Policy, policyOf, stamp}
 use Rattle.format.specs.Table.{Record, hasMark, goodMarks, goodRecord, tableFault, recordsOf, tableImage}
 use Rattle.format.specs.Records.{recordsHere}
+use Rattle.format.specs.Altered.{alteredBlocks}
 use Rattle.format_laws.proofs.RecordImage.{Whole}
+use Rattle.format_laws.proofs.TableImage.{reads-back}
 use Rattle.format_laws.proofs.Accepted.{accepted-length, accepted-image, accepted-records}
 use Rattle.judge.specs.NewTable.{sweep}
 use Rattle.table_write.proofs.Records.{image-here}
@@ -37,6 +40,14 @@ swept : (p : Policy) {rs : List Record} → Every (λ r. goodRecord p r ≡ true
 unfolding sweep keep goodRecord
 swept p empty = refl
 swept p (more {x = r} h t) = rw (both-second (goodRequest (r .request) && goodMarks p r) (hasMark r) h, swept p t)
+
+-- a table written over it: the blocks that differ, told by the records that both say
+pub written-here :
+    {policy : List ℕ} {t : Sums} {s : List ℕ} {n : ℕ} → Standing policy t s n → {rs : List Record} → Every Whole rs → length rs ≤ capacity (blocks s)
+    → {s′ : List ℕ} {c : ℕ} → s′ ≡ tableImage t (blocks s) rs → c ≡ alteredBlocks (blocks s) (recordsHere s n) rs
+    → c ≡ alteredBlocks (blocks s) (recordsOf s) (recordsOf s′)
+written-here {t = t} {s = s} st {rs} whole fit is written =
+    written ∙ ap₂ {C = ℕ} (alteredBlocks (blocks s)) (st .here) (sym (ap recordsOf is ∙ reads-back t (blocks s) rs (st .room .most) whole fit))
 
 -- by what acceptance says of policy and table
 pub standing : {policy : List ℕ} {t : Sums} {s : List ℕ} {n : ℕ} → Every Byte s → tableFault policy s ≡ none → t ≡ stamp policy

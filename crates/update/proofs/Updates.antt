@@ -18,7 +18,6 @@ use Rattle.format.specs.Table.{goodRecord, recordsOf, tableImage}
 use Rattle.format.specs.Records.{recordsHere}
 use Rattle.format.specs.Altered.{alteredBlocks}
 use Rattle.format_laws.proofs.RecordImage.{Whole}
-use Rattle.format_laws.proofs.TableImage.{reads-back}
 use Rattle.format_laws.proofs.AcceptedPolicy.{rules-most}
 use Rattle.judge.specs.NewTable.{openIn, recordOf, sweep, tableAfter}
 use Rattle.matching.specs.declared.masks.Each.{Each}
@@ -29,7 +28,7 @@ use Rattle.clearing.specs.Cleared.{afterBy}
 use Rattle.clearing.proofs.Left.{length-here, length-swept}
 use Rattle.clearing.proofs.After.{after-few}
 use Rattle.update.specs.Updating.{Judged, updateOf}
-use Rattle.update.proofs.Standing.{Standing}
+use Rattle.update.proofs.Standing.{Standing, written-here}
 use Rattle.update.proofs.AfterLaws.{after-whole}
 use Rattle.update.proofs.Marks.{marks-below}
 use Rattle.update.proofs.Judgement.{after-same}
@@ -106,8 +105,5 @@ module _ {policy : List ℕ} {t : Sums} {e : Ending} {given : RuleSet} {q s : Li
         → c ≡ alteredBlocks (blocks s) (recordsOf s) (recordsOf s′)
     written-is sized small is {s′} {c} es′ ec =
         let after = afterBy (e .each) q (e .rules .0) (given .0) (recordsHere s n) in
-        let said : recordsOf s′ ≡ after =
-        ap recordsOf es′
-        ∙ reads-back t (blocks s) after (st .room .most) (after-whole (e .each) q (e .rules .0) (given .0) (recordsHere s n) (st .whole) sized small)
-        (room-fits (length after) (capacity (blocks s)) room is) in
-        ec ∙ ap₂ {C = ℕ} (alteredBlocks (blocks s)) (st .here) (sym said)
+        written-here st (after-whole (e .each) q (e .rules .0) (given .0) (recordsHere s n) (st .whole) sized small)
+        (room-fits (length after) (capacity (blocks s)) room is) es′ ec

@@ -8,7 +8,7 @@ ghost use lib.ListN.{length};
 ghost use Rattle.sums.specs.Code.{sumsOf};
 ghost use Rattle.format.specs.Layout.{requestBytes, capacity};
 ghost use Rattle.format.specs.Block.{blocks as blocksOf};
-ghost use Rattle.format.specs.Table.{tableImage};
+ghost use Rattle.format.specs.Table.{Record, tableImage};
 ghost use Rattle.format.specs.Records.{recordsHere};
 ghost use Rattle.format.specs.Altered.{alteredBlocks};
 ghost use Rattle.judge.specs.NewTable.{sweep};
@@ -16,6 +16,7 @@ ghost use Rattle.fields.specs.Code.{HasRoom};
 ghost use Rattle.matching.specs.Masks.{NearOf};
 ghost use Rattle.table_write.specs.Writing.{Placed};
 ghost use Rattle.clearing.specs.Cleared.{afterBy, AllMarked};
+ghost use Rattle.update.specs.Became.{Became};
 use clearing::ending::Ending;
 use clearing::settling::Settled;
 use clearing::settling::settle;
@@ -31,6 +32,17 @@ pub struct Written {
     pub blocks: usize,
 }
 
+// Writes the blocks whose records differ, around the records that stand in a table that was the image of n.
+pub fn write_settled(stamp: Sum, table: &mut [u8], n: usize, after: Settled) -> Written
+    requires { ⌜ Became (sumsOf stamp) n (now table) (after .held) (after .changed) ⌝ }
+    ensures { λ r. ⌜ ((s : List ℕ) (rs : List Record) → Placed s (now (table .entry)) (after .held) (after .changed) → recordsHere (now (table .entry)) (after .held) ≡ rs → (now (table .exit) ≡ tableImage (sumsOf stamp) (blocksOf s) rs) × (r .held ≡ length rs) × (r .blocks ≡ alteredBlocks (blocksOf s) (recordsHere s n) rs)) ⌝ }
+{
+    let held = after.held;
+    let changed = with_resized(after.changed, n, held);
+    let blocks = seal_blocks(table, stamp, held, changed);
+    Written { held, blocks }
+}
+
 // Puts the request behind the records that are left, if it has a mark.
 fn append(table: &mut [u8], left: Settled, q: &[u8], gives: RuleSet) -> Settled
     requires { ⌜ length (now q) ≡ requestBytes ⌝ }
@@ -41,7 +53,8 @@ fn append(table: &mut [u8], left: Settled, q: &[u8], gives: RuleSet) -> Settled
         return left;
     }
     let held = left.held;
-    let changed = place_request(table, held, q, gives, left.changed);
+    let noted = left.changed;
+    let changed = place_request(table, held, q, gives, noted);
     Settled {
         held: held + 1,
         changed,
@@ -66,8 +79,5 @@ pub fn write_after(
 {
     let left = settle(ending, q, table, n);
     let after = append(table, left, q, gives);
-    let held = after.held;
-    let changed = with_resized(after.changed, n, held);
-    let blocks = seal_blocks(table, stamp, held, changed);
-    Written { held, blocks }
+    write_settled(stamp, table, n, after)
 }

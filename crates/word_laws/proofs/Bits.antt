@@ -118,3 +118,15 @@ anyBelow-both (suc n) f g = go (anyBelow n f) (anyBelow n (λ i. f i && g i)) (f
     go false true c d h = cc
     go false false true d h = refl
     go false false false d h = refl
+
+-- a test that is the same everywhere may be asked once
+pub anyBelow-and : (n : ℕ) (f : ℕ → Bool) (b : Bool) → anyBelow n (λ i. f i && b) ≡ anyBelow n f && b
+unfolding anyBelow
+anyBelow-and zero f b = refl
+anyBelow-and (suc n) f b = rw (anyBelow-and n f b) (go (anyBelow n f) (f n) b)
+  where
+    go : (a c d : Bool) → (a && d) || (c && d) ≡ (a || c) && d
+    go true c true = refl
+    go true true false = refl
+    go true false false = refl
+    go false c d = refl

@@ -41,6 +41,20 @@ module _ {A : Type 0} where
       go h true = rw h
       go h false = h
 
+  -- by one test and then by another, in either order
+  pub keep-swap : (s t : A → Bool) (xs : List A) → keep t (keep s xs) ≡ keep s (keep t xs)
+  unfolding keep
+  keep-swap s t [] = refl
+  keep-swap s t (x ∷ xs) = go (keep-swap s t xs) (s x) refl (t x) refl
+    where
+      go :
+          keep t (keep s xs) ≡ keep s (keep t xs) → (a : Bool) → s x ≡ a → (b : Bool) → t x ≡ b
+          → keep t (cond a (x ∷ keep s xs) (keep s xs)) ≡ keep s (cond b (x ∷ keep t xs) (keep t xs))
+      go h true e true f = rw (e, f, h)
+      go h true e false f = rw (f, h)
+      go h false e true f = rw (e, h)
+      go h false e false f = h
+
   pub keep-map : {B : Type 0} (f : B → A) (t : A → Bool) (xs : List B) → keep t (map f xs) ≡ map f (keep (λ x. t (f x)) xs)
   unfolding keep
   keep-map f t [] = refl

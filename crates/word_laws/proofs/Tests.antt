@@ -3,7 +3,7 @@
 use Prim.Native.Nat.{ℕ, zero, suc, _<_}
 use native.Mathlib.Decide.{decLt}
 use native.Mathlib.Omega.{arith}
-use mathlib.Core.Path.{_≡_, refl}
+use mathlib.Core.Path.{_≡_, refl, sym, _∙_}
 use mathlib.Core.Bool.{Bool, true, false, _&&_, _||_}
 use Rattle.words.specs.Lists.{allBelow, anyBelow}
 
@@ -48,6 +48,14 @@ unfolding allBelow
 allBelow-at zero i f h b = absurd (omega arith)
 allBelow-at (suc n) i f h b =
     below-suc (λ j. f j ≡ true) n i b (allBelow-at n i f (both-first (allBelow n f) (f n) h)) (both-second (allBelow n f) (f n) h)
+
+-- one that fails is enough
+pub allBelow-fails : (n i : ℕ) (f : ℕ → Bool) → i < n → f i ≡ false → false ≡ allBelow n f
+allBelow-fails n i f h e = go (allBelow n f) refl
+  where
+    go : (b : Bool) → allBelow n f ≡ b → false ≡ b
+    go true all = sym e ∙ allBelow-at n i f all h
+    go false all = refl
 
 -- tests that agree below n pass together
 pub allBelow-same : (n : ℕ) (f g : ℕ → Bool) → ((i : ℕ) → i < n → f i ≡ g i) → allBelow n f ≡ allBelow n g

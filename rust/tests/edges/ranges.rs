@@ -156,15 +156,6 @@ fn which_fault_is_first() {
 // ---------------------------------------------------------------------------------------------
 // Which contexts fit
 
-const BEGIN: Privilege = Privilege {
-    operation: 3,
-    target: 1,
-};
-const CHECK: Privilege = Privilege {
-    operation: 4,
-    target: 1,
-};
-
 /// A rule over these levels, in the order of the types, that keeps working and checking apart.
 fn apart(marks: &[Mark]) -> Rule {
     Rule {

@@ -9,6 +9,7 @@ pub const CHECKED: usize = 504;
 pub const RECORDS_PER_BLOCK: usize = 15;
 pub const RECORD: usize = 32;
 pub const REQUEST: usize = 28;
+pub const CONTEXT: usize = 16;
 
 /// An operation on a target.
 #[derive(Clone, Copy, PartialEq, Eq, PartialOrd, Ord, Debug)]
@@ -414,6 +415,14 @@ fn read_fields(bytes: &[u8]) -> Option<Request> {
     (request.user != 0 && request.roles != 0).then_some(request)
 }
 
+/// The context of a closing: "a length other than 16 gives 21, a bad context 22".
+pub fn read_closing(bytes: &[u8]) -> Answer<Context> {
+    refuse_unless(bytes.len() == CONTEXT, 21, 0, 0)?;
+    let context = read_context(bytes);
+    refuse_unless(context.is_some(), 22, 0, 0)?;
+    Ok(context.unwrap())
+}
+
 fn read_context(bytes: &[u8]) -> Option<Context> {
     let levels: Vec<(u16, u16)> = bytes
         .chunks_exact(4)
@@ -431,9 +440,15 @@ pub fn write_request(request: &Request) -> [u8; REQUEST] {
     put_u32(&mut bytes, 0, request.user);
     put_u32(&mut bytes, 4, request.roles);
     put_privilege(&mut bytes, 8, request.privilege);
-    for (i, &(kind, value)) in request.context.iter().enumerate() {
-        put_u16(&mut bytes, 12 + 4 * i, kind);
-        put_u16(&mut bytes, 14 + 4 * i, value);
+    bytes[12..].copy_from_slice(&write_context(&request.context));
+    bytes
+}
+
+pub fn write_context(context: &[(u16, u16)]) -> [u8; CONTEXT] {
+    let mut bytes = [0; CONTEXT];
+    for (i, &(kind, value)) in context.iter().enumerate() {
+        put_u16(&mut bytes, 4 * i, kind);
+        put_u16(&mut bytes, 4 * i + 2, value);
     }
     bytes
 }

@@ -22,6 +22,12 @@ pub fn fits(rule: &Rule, context: &Context) -> bool {
             })
 }
 
+/// "Every record whose context begins with those levels": the same type and the same value at each of
+/// them; what comes behind them does not matter.
+pub fn begins_with(context: &Context, levels: &Context) -> bool {
+    context.len() >= levels.len() && levels.iter().zip(context).all(|(one, other)| one == other)
+}
+
 /// A run place: the value at each mark 3, and 0 at the other levels. Two fitting contexts share one
 /// if these are equal. So "all values in the range share a run place".
 pub type Place = [u16; 4];
@@ -220,6 +226,30 @@ pub fn decide(policy: &[u8], table: &mut [u8], request: &[u8]) -> Reply {
 /// unaltered."
 pub fn preview(policy: &[u8], table: &[u8], request: &[u8]) -> Reply {
     decide(policy, &mut table.to_vec(), request)
+}
+
+/// Document 02, W2: "Every record whose context begins with those levels is removed, and the number
+/// removed is returned .. Other records keep the marks they had."
+pub fn close(policy: &[u8], table: &mut [u8], context: &[u8]) -> Reply {
+    match closed(policy, table, context) {
+        Ok((reply, after)) => {
+            table.copy_from_slice(&after);
+            reply
+        }
+        Err(refusal) => refusal,
+    }
+}
+
+/// The answer to a closing and the table's image after it.
+fn closed(policy: &[u8], table: &[u8], context: &[u8]) -> Answer<(Reply, Vec<u8>)> {
+    let read = read_policy(policy)?;
+    let stamp = sums(policy);
+    let records = read_table(&read, stamp, table, fits)?;
+    let levels = read_closing(context)?;
+    let mut after = records.clone();
+    after.retain(|record| !begins_with(&record.request.context, &levels));
+    let reply = Reply::accept(records.len() - after.len());
+    Ok((reply, write_table(stamp, &after, table.len() / BLOCK)))
 }
 
 /// A grant and the table's image after it.

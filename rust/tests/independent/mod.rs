@@ -1,12 +1,13 @@
-//! Document 01 once more, in plain Rust, to hold the proved engine against.
+//! Document 01 once more, with what document 02 has added, in plain Rust, to hold the proved engine
+//! against.
 //!
-//! It was written from the paper alone, before its author had seen a line of the engine or of its
+//! It was written from the papers alone, before its author had seen a line of the engine or of its
 //! definitions, and shares nothing with them. There are two judges and a register, and the tests
 //! ask for the same answers and the same bytes from all of them and from the engine:
 //!
 //! * [`images`] reads and writes policies, tables and requests, naming the first fault;
 //! * [`judge`] is the judgement in the paper's words over what was read: slow, easy to follow;
-//! * [`register`] is the full register, which forgets no grant and never sees a table;
+//! * [`register`] is the full register, which forgets no grant and no closing and never sees a table;
 //! * [`quick`] judges on the bytes themselves, in place and without an allocation. It is the one
 //!   that the benchmark sets beside the engine, and it uses none of the three above.
 
@@ -28,7 +29,7 @@ pub struct Reply {
 }
 
 impl Reply {
-    /// A check was passed: `count` rules, records or places.
+    /// A check was passed: `count` rules, records or places; or a closing removed so many records.
     pub fn accept(count: usize) -> Reply {
         Reply::of(0, count, 0, 0)
     }

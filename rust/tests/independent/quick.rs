@@ -50,6 +50,18 @@ pub fn decide_counting(policy: &[u8], table: &mut [u8], request: &[u8]) -> (Repl
     }
 }
 
+pub fn close(policy: &[u8], table: &mut [u8], context: &[u8]) -> Reply {
+    close_counting(policy, table, context).0
+}
+
+/// A closing, and how many blocks it has written.
+pub fn close_counting(policy: &[u8], table: &mut [u8], context: &[u8]) -> (Reply, u32) {
+    match closed(policy, table, context) {
+        Ok(removed) => removed,
+        Err(refusal) => (refusal, 0),
+    }
+}
+
 pub fn preview(policy: &[u8], table: &[u8], request: &[u8]) -> Reply {
     match previewed(policy, table, request) {
         Ok(grant) => grant,
@@ -413,16 +425,20 @@ impl Request {
     }
 
     fn is_good(&self) -> bool {
-        let [first, second, third, fourth] = self.context;
         (self.user != 0)
             & (self.roles != 0)
             & both_halves(self.privilege)
-            // Every level is whole or blank, and no used one stands behind a blank one.
-            & ((first == 0) | both_halves(first))
-            & ((second == 0) | both_halves(second) & (first != 0))
-            & ((third == 0) | both_halves(third) & (second != 0))
-            & ((fourth == 0) | both_halves(fourth) & (third != 0))
+            & good_context(&self.context)
     }
+}
+
+/// Whether every level is whole or blank, and no used one stands behind a blank one.
+fn good_context(context: &Context) -> bool {
+    let [first, second, third, fourth] = *context;
+    ((first == 0) | both_halves(first))
+        & ((second == 0) | both_halves(second) & (first != 0))
+        & ((third == 0) | both_halves(third) & (second != 0))
+        & ((fourth == 0) | both_halves(fourth) & (third != 0))
 }
 
 fn read_record(bytes: &[u8; 32]) -> (Request, u32) {
@@ -724,7 +740,8 @@ impl Step<'_> {
         let mut to = if self.closing == 0 {
             Place::of(self.held)
         } else {
-            self.clear(&mut writer)
+            let left = |earlier: &Request, marks| self.left(earlier, marks);
+            settle(&mut writer, self.held, left)
         };
         if self.marks != 0 {
             let mut record = [0; 32];
@@ -732,12 +749,9 @@ impl Step<'_> {
             writer.put(to, with_marks(&record, self.marks));
             to = to.next();
         }
-        // The places that fall free become zero. The request is there already: no place is put to
-        // twice, so that a record is compared with what stood there before the step.
-        for _ in held_after..self.held {
-            writer.put(to, [0; 4]);
-            to = to.next();
-        }
+        // The request is there already: no place is put to twice, so that a record is compared with
+        // what stood there before the step.
+        writer.blank(to, held_after, self.held);
         writer.finish(held_after)
     }
 
@@ -748,29 +762,65 @@ impl Step<'_> {
         }
         marks & !(self.closing & self.policy.sharing(&self.context, &earlier.context))
     }
+}
 
-    /// Clears marks and closes up; the place behind the last record that stays.
-    fn clear(&self, writer: &mut Writer) -> Place {
-        let (mut to, mut moved) = (Place::of(0), false);
-        for block in 0..self.held.div_ceil(RECORDS_PER_BLOCK) {
-            let count = self.held - RECORDS_PER_BLOCK * block;
-            for index in 0..count.min(RECORDS_PER_BLOCK) {
-                let bytes = writer.at(Place { block, index });
-                let (earlier, marks) = read_record(bytes);
-                let left = self.left(&earlier, marks);
-                if left == 0 {
-                    moved = true;
-                    continue;
-                }
-                if moved || left != marks {
-                    let record = with_marks(bytes, left);
-                    writer.put(to, record);
-                }
-                to = to.next();
-            }
+// ---------------------------------------------------------------------------------------------
+// The closing
+
+fn closed(policy: &[u8], table: &mut [u8], context: &[u8]) -> Answer<(Reply, u32)> {
+    let policy = read_policy(policy)?;
+    let held = count_records(&policy, table)?;
+    let bytes: Option<&[u8; 16]> = context.try_into().ok();
+    refuse_unless(bytes.is_some(), 21, 0, 0)?;
+    let bytes = bytes.unwrap();
+    let levels = [0, 1, 2, 3].map(|i| word(bytes, i));
+    refuse_unless(good_context(&levels), 22, 0, 0)?;
+
+    // A blank level asks for nothing. A record that is not as deep is blank where a level is used.
+    let asked = levels.map(|level| if level == 0 { 0 } else { !0 });
+    let left = |earlier: &Request, marks| {
+        let off = (0..4).fold(0, |off, i| {
+            off | (earlier.context[i] ^ levels[i]) & asked[i]
+        });
+        if off == 0 {
+            0
+        } else {
+            marks
         }
-        to
+    };
+    let table = table.as_chunks_mut::<512>().0;
+    let mut writer = Writer { table, altered: 0 };
+    let behind = settle(&mut writer, held, left);
+    let stay = behind.records();
+    writer.blank(behind, stay, held);
+    Ok((Reply::accept(held - stay), writer.finish(stay)))
+}
+
+// ---------------------------------------------------------------------------------------------
+// Writing
+
+/// Gives each of so many records the marks that are left to it, and closes up where none are; the
+/// place behind the last record that stays.
+fn settle(writer: &mut Writer, held: usize, left: impl Fn(&Request, u32) -> u32) -> Place {
+    let (mut to, mut moved) = (Place::of(0), false);
+    for block in 0..held.div_ceil(RECORDS_PER_BLOCK) {
+        let count = held - RECORDS_PER_BLOCK * block;
+        for index in 0..count.min(RECORDS_PER_BLOCK) {
+            let bytes = writer.at(Place { block, index });
+            let (earlier, marks) = read_record(bytes);
+            let left = left(&earlier, marks);
+            if left == 0 {
+                moved = true;
+                continue;
+            }
+            if moved || left != marks {
+                let record = with_marks(bytes, left);
+                writer.put(to, record);
+            }
+            to = to.next();
+        }
     }
+    to
 }
 
 /// A record as four numbers, by which it is compared and written whole.
@@ -806,6 +856,11 @@ impl Place {
             block: records / RECORDS_PER_BLOCK,
             index: records % RECORDS_PER_BLOCK,
         }
+    }
+
+    /// How many records stand before it.
+    fn records(self) -> usize {
+        RECORDS_PER_BLOCK * self.block + self.index
     }
 
     fn next(self) -> Place {
@@ -848,6 +903,14 @@ impl Writer<'_> {
                 *bytes = number.to_le_bytes();
             }
             self.altered |= 1 << place.block;
+        }
+    }
+
+    /// Makes zero the places that fall free from this one on, where so many records stay of so many.
+    fn blank(&mut self, mut from: Place, stay: usize, held: usize) {
+        for _ in stay..held {
+            self.put(from, [0; 4]);
+            from = from.next();
         }
     }
 

@@ -1,20 +1,29 @@
-//! The full register of document 01: the list of all granted requests, nothing dropped.
+//! The full register of document 01, with the closings of document 02: the list of all granted requests
+//! and of all closings, nothing dropped.
 //!
 //! It knows the policy and the number of blocks, and never sees a table.
 
 use super::images::*;
-use super::judge::{fits, judging_rules, place, Place, Tally};
+use super::judge::{begins_with, fits, judging_rules, place, Place, Tally};
 use super::{refuse_unless, Answer, Reply};
-use std::borrow::Borrow;
 use std::collections::{BTreeMap, BTreeSet};
+
+/// "In the register a closing is an entry of its own kind."
+enum Entry {
+    Grant(Request),
+    Closing(Context),
+}
+
+/// The requests of a run, each with where it stands in the list.
+type Run<'e> = Vec<(usize, &'e Request)>;
 
 pub struct Register {
     policy: Policy,
     stamp: (u32, u32),
     blocks: usize,
-    granted: Vec<Request>,
-    /// For each granted request the rules that have it in a run, rule r at bit r - 1. It follows
-    /// from `granted`, and is kept only to spare working it out twice.
+    entries: Vec<Entry>,
+    /// For each entry the rules that have it in a run, rule r at bit r - 1; none for a closing. It
+    /// follows from `entries`, and is kept only to spare working it out twice.
     counted: Vec<u32>,
 }
 
@@ -25,7 +34,7 @@ impl Register {
             policy: read_policy(policy).expect("the policy is accepted"),
             stamp: sums(policy),
             blocks,
-            granted: vec![],
+            entries: vec![],
             counted: vec![],
         }
     }
@@ -33,8 +42,8 @@ impl Register {
     /// The answer to a request of any bytes and length; a grant is taken down.
     pub fn answer(&mut self, request: &[u8]) -> Reply {
         match self.judge(request) {
-            Ok((grant, request, counted)) => {
-                self.granted.push(request);
+            Ok((grant, entry, counted)) => {
+                self.entries.push(entry);
                 self.counted = counted;
                 grant
             }
@@ -50,48 +59,77 @@ impl Register {
         }
     }
 
-    /// A grant, the request that it is for, and what `counted` is with that appended.
-    fn judge(&self, request: &[u8]) -> Answer<(Reply, Request, Vec<u32>)> {
+    /// The answer to a closing of any bytes and length: "21 or 22 by its bytes alone, else how many
+    /// entries no longer lie in any run". It is an entry though that be none.
+    pub fn close(&mut self, context: &[u8]) -> Reply {
+        match read_closing(context) {
+            Ok(context) => {
+                self.entries.push(Entry::Closing(context));
+                let before = std::mem::take(&mut self.counted);
+                self.counted = self.counted_with(None);
+                Reply::accept(gone(&before, &self.counted))
+            }
+            Err(refusal) => refusal,
+        }
+    }
+
+    /// A grant, the entry that it makes, and what `counted` is with that appended.
+    fn judge(&self, request: &[u8]) -> Answer<(Reply, Entry, Vec<u32>)> {
         let request = read_request(request)?;
         judging_rules(&self.policy, &request, |r, at| self.run(r, at))?;
 
-        let appended: Vec<&Request> = self.granted.iter().chain([&request]).collect();
-        let counted = entries_in_runs(&self.policy, &appended);
+        let entry = Entry::Grant(request);
+        let counted = self.counted_with(Some(&entry));
         let held = counted.iter().filter(|&&marks| marks != 0).count();
         refuse_unless(held <= places(self.blocks), 34, 0, 0)?;
 
-        let removed = (self.counted.iter().zip(&counted))
-            .filter(|(&before, &now)| before != 0 && now == 0)
-            .count();
+        let removed = gone(&self.counted, &counted);
         let recorded = counted.last().is_some_and(|&marks| marks != 0);
         let grant = Reply::grant(recorded as usize, removed, held);
-        Ok((grant, request, counted))
+        Ok((grant, entry, counted))
     }
 
     /// The requests of the run of a rule (from 0) at a place.
     fn run(&self, r: usize, at: Place) -> Vec<&Request> {
         let rule = &self.policy.rules[r];
-        let there: Vec<usize> = (0..self.granted.len())
-            .filter(|&entry| {
-                let context = &self.granted[entry].context;
-                fits(rule, context) && place(rule, context) == at
-            })
-            .collect();
-        cut_to_run(rule, &self.granted, &there)
-            .iter()
-            .map(|&entry| &self.granted[entry])
-            .collect()
+        let there =
+            |request: &Request| fits(rule, &request.context) && place(rule, &request.context) == at;
+        let mut run = vec![];
+        for (entry, one) in self.entries.iter().enumerate() {
+            match one {
+                Entry::Grant(request) if there(request) => {
+                    one_more_grant(rule, &mut run, entry, request);
+                }
+                Entry::Grant(_) => {}
+                Entry::Closing(levels) => one_more_closing(&mut run, levels),
+            }
+        }
+        run.into_iter().map(|(_, request)| request).collect()
+    }
+
+    /// For each entry of the list, with this one appended, the rules that have it in some run.
+    fn counted_with(&self, appended: Option<&Entry>) -> Vec<u32> {
+        let list = || self.entries.iter().chain(appended);
+        let mut counted = vec![0; list().count()];
+        for (r, rule) in self.policy.rules.iter().enumerate() {
+            for (entry, _) in runs(rule, list()).into_values().flatten() {
+                counted[entry] |= 1 << r;
+            }
+        }
+        counted
     }
 
     /// The table that demand 3 prescribes: "B blocks, the policy's stamp and one record for each
     /// register entry in some run, in the register's order, bit r - 1 set exactly when a run of
     /// rule r has it".
     pub fn image(&self) -> Vec<u8> {
-        let records: Vec<Record> = (self.granted.iter().zip(&self.counted))
-            .filter(|(_, &marks)| marks != 0)
-            .map(|(request, &marks)| Record {
-                request: request.clone(),
-                marks,
+        let records: Vec<Record> = (self.entries.iter().zip(&self.counted))
+            .filter_map(|(entry, &marks)| match entry {
+                Entry::Grant(request) if marks != 0 => Some(Record {
+                    request: request.clone(),
+                    marks,
+                }),
+                _ => None,
             })
             .collect();
         write_table(self.stamp, &records, self.blocks)
@@ -100,13 +138,13 @@ impl Register {
     /// Demand 3's last claim for the runs as they stand: no user has reached the forbidden number.
     pub fn nobody_has_reached_m(&self) -> bool {
         self.policy.rules.iter().all(|rule| {
-            runs(rule, &self.granted).values().all(|run| {
-                let users: BTreeSet<u32> = run.iter().map(|&e| self.granted[e].user).collect();
+            runs(rule, self.entries.iter()).values().all(|run| {
+                let users: BTreeSet<u32> = run.iter().map(|(_, request)| request.user).collect();
                 users.iter().all(|&user| {
-                    let of_user = || run.iter().filter(|&&e| self.granted[e].user == user);
+                    let of_user = || run.iter().filter(|(_, request)| request.user == user);
                     rule.exclusions.iter().all(|exclusion| {
-                        let tally = of_user().fold(Tally::new(exclusion), |tally, &entry| {
-                            tally.take_in(&self.granted[entry])
+                        let tally = of_user().fold(Tally::new(exclusion), |tally, (_, request)| {
+                            tally.take_in(request)
                         });
                         !tally.reaches_m()
                     })
@@ -139,51 +177,104 @@ impl Register {
             })
     }
 
-    pub fn grants(&self) -> usize {
-        self.granted.len()
+    /// Grants and closings.
+    pub fn entries(&self) -> usize {
+        self.entries.len()
+    }
+
+    /// Where the list has no closing: whether its runs are those of document 01's own words.
+    pub fn is_document_01s(&self) -> Option<bool> {
+        let granted: Option<Vec<&Request>> = (self.entries.iter())
+            .map(|entry| match entry {
+                Entry::Grant(request) => Some(request),
+                Entry::Closing(_) => None,
+            })
+            .collect();
+        let granted = granted?;
+        let same = |rule| runs(rule, self.entries.iter()) == runs_of_grants(rule, &granted);
+        Some(self.policy.rules.iter().all(same))
     }
 }
 
-/// Of the list's entries that fit the rule and are of one place, in order, those of the run:
+/// How many entries lay in some run and do so no longer.
+fn gone(before: &[u32], now: &[u32]) -> usize {
+    (before.iter().zip(now))
+        .filter(|(&before, &now)| before != 0 && now == 0)
+        .count()
+}
+
+// ---------------------------------------------------------------------------------------------
+// Runs, step by step
+
+/// All runs of a rule that have a request.
+fn runs<'e>(rule: &Rule, list: impl Iterator<Item = &'e Entry>) -> BTreeMap<Place, Run<'e>> {
+    let mut runs: BTreeMap<Place, Run> = BTreeMap::new();
+    for (at, entry) in list.enumerate() {
+        match entry {
+            Entry::Grant(request) if fits(rule, &request.context) => {
+                let run = runs.entry(place(rule, &request.context)).or_default();
+                one_more_grant(rule, run, at, request);
+            }
+            Entry::Grant(_) => {}
+            Entry::Closing(levels) => {
+                let each = runs.values_mut();
+                each.for_each(|run| one_more_closing(run, levels));
+            }
+        }
+    }
+    runs.retain(|_, run| !run.is_empty());
+    runs
+}
+
+/// A last step ends the run. Anything else joins where no first step is set, where it is the first
+/// step, and "while that run has a request".
+fn one_more_grant<'e>(rule: &Rule, run: &mut Run<'e>, at: usize, request: &'e Request) {
+    let step = Some(request.privilege);
+    if rule.last == step {
+        *run = vec![];
+    } else if rule.first.is_none() || rule.first == step || !run.is_empty() {
+        run.push((at, request));
+    }
+}
+
+/// "After which the requests it names lie in no run and the rest keep their standing, even if the
+/// first step that opened their run is gone." A run that has no request left is over.
+fn one_more_closing(run: &mut Run, levels: &Context) {
+    run.retain(|(_, request)| !begins_with(&request.context, levels));
+}
+
+// ---------------------------------------------------------------------------------------------
+// Runs in document 01's own words, of a list that has no closing
+
+/// Of the list's requests that fit the rule and are of one place, in order, those of the run:
 /// "without all up to and including the latest last step; and, where a first step is set, without
 /// all before the earliest first step remaining (empty if none remains)".
-fn cut_to_run(rule: &Rule, list: &[impl Borrow<Request>], there: &[usize]) -> Vec<usize> {
-    let is = |entry: usize, step: Privilege| list[entry].borrow().privilege == step;
+fn cut_to_run<'e>(rule: &Rule, there: &[(usize, &'e Request)]) -> Run<'e> {
+    let is = |request: &Request, step: Privilege| request.privilege == step;
     let mut run = there;
     if let Some(last) = rule.last {
-        let latest = run.iter().rposition(|&entry| is(entry, last));
+        let latest = run.iter().rposition(|(_, request)| is(request, last));
         run = latest.map_or(run, |latest| &run[latest + 1..]);
     }
     if let Some(first) = rule.first {
-        let earliest = run.iter().position(|&entry| is(entry, first));
+        let earliest = run.iter().position(|(_, request)| is(request, first));
         run = earliest.map_or(&[], |earliest| &run[earliest..]);
     }
     run.to_vec()
 }
 
-/// All runs of a rule.
-fn runs(rule: &Rule, list: &[impl Borrow<Request>]) -> BTreeMap<Place, Vec<usize>> {
-    let mut by_place: BTreeMap<Place, Vec<usize>> = BTreeMap::new();
-    for (entry, request) in list.iter().enumerate() {
-        let context = &request.borrow().context;
-        if fits(rule, context) {
-            let there = by_place.entry(place(rule, context)).or_default();
-            there.push(entry);
+/// All runs of a rule that have a request.
+fn runs_of_grants<'e>(rule: &Rule, granted: &[&'e Request]) -> BTreeMap<Place, Run<'e>> {
+    let mut by_place: BTreeMap<Place, Run> = BTreeMap::new();
+    for (at, request) in granted.iter().enumerate() {
+        if fits(rule, &request.context) {
+            let there = by_place.entry(place(rule, &request.context)).or_default();
+            there.push((at, request));
         }
     }
     for there in by_place.values_mut() {
-        *there = cut_to_run(rule, list, there);
+        *there = cut_to_run(rule, there);
     }
+    by_place.retain(|_, run| !run.is_empty());
     by_place
-}
-
-/// For each list entry the rules that have it in some run.
-fn entries_in_runs(policy: &Policy, list: &[&Request]) -> Vec<u32> {
-    let mut counted = vec![0; list.len()];
-    for (r, rule) in policy.rules.iter().enumerate() {
-        for entry in runs(rule, list).values().flatten() {
-            counted[*entry] |= 1 << r;
-        }
-    }
-    counted
 }

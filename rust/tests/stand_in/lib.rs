@@ -1,4 +1,4 @@
-//! The five C functions of include/sod.h from the independent judge, so that wrapper, examples and
+//! The six C functions of include/sod.h from the independent judge, so that wrapper, examples and
 //! tests can be tried where the engine's archive is not at hand. That judge is tested, not proved.
 
 #[path = "../independent/mod.rs"]
@@ -83,6 +83,23 @@ unsafe extern "C" fn sod_preview(
         lent(policy, policy_len),
         lent(table, table_len),
         lent(request, request_len),
+    )
+    .into()
+}
+
+#[no_mangle]
+unsafe extern "C" fn sod_close(
+    policy: *const u8,
+    policy_len: usize,
+    table: *mut u8,
+    table_len: usize,
+    context: *const u8,
+    context_len: usize,
+) -> Reply {
+    quick::close(
+        lent(policy, policy_len),
+        lent_mut(table, table_len),
+        lent(context, context_len),
     )
     .into()
 }

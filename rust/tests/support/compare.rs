@@ -1,5 +1,7 @@
 //! One call put to the engine and to both independent judges, and all that comes of it compared.
 
+use super::closed;
+use super::engine;
 use super::guarded::{Guarded, SHIFTS};
 use super::lent::{Lay, Lent};
 use super::plain;
@@ -16,9 +18,10 @@ use std::fmt;
 pub struct Seen {
     pub decisions: usize,
     pub previews: usize,
+    pub closings: usize,
     refusals: BTreeMap<(&'static str, u32), usize>,
     grants: BTreeMap<(&'static str, Kind), usize>,
-    notes: BTreeMap<&'static str, usize>,
+    notes: BTreeMap<(&'static str, &'static str), usize>,
 }
 
 /// A kind of grant: whether it recorded, removed some, and left some.
@@ -53,11 +56,17 @@ impl Seen {
         }
         self.decisions += usize::from(decides);
         self.previews += usize::from(previews);
+        self.closings += usize::from(call == "close");
     }
 
     /// Takes down that a call met with this.
     pub fn note(&mut self, what: &'static str) {
-        *self.notes.entry(what).or_default() += 1;
+        self.note_of("", what);
+    }
+
+    /// The same, of what is counted for each call by itself.
+    pub fn note_of(&mut self, call: &'static str, what: &'static str) {
+        *self.notes.entry((call, what)).or_default() += 1;
     }
 
     pub fn refused(&self, call: &'static str, number: u32) -> usize {
@@ -85,9 +94,14 @@ impl Seen {
 
     /// Fails unless each of these was taken down so many times.
     pub fn must_note(&self, notes: &[&'static str], times: usize) {
-        for what in notes {
-            let seen = self.notes.get(what).copied().unwrap_or(0);
-            assert!(seen >= times, "{what}: {seen} times\n{self}");
+        self.must_note_of("", notes, times);
+    }
+
+    /// The same, of what is counted for each call by itself.
+    pub fn must_note_of(&self, call: &'static str, notes: &[&'static str], times: usize) {
+        for &what in notes {
+            let seen = self.notes.get(&(call, what)).copied().unwrap_or(0);
+            assert!(seen >= times, "{call} {what}: {seen} times\n{self}");
         }
     }
 }
@@ -96,8 +110,8 @@ impl fmt::Display for Seen {
     fn fmt(&self, f: &mut fmt::Formatter) -> fmt::Result {
         writeln!(
             f,
-            "{} decisions, {} previews",
-            self.decisions, self.previews
+            "{} decisions, {} previews, {} closings",
+            self.decisions, self.previews, self.closings
         )?;
         for ((call, (recorded, removed, held)), times) in &self.grants {
             let some = |yes: &bool| if *yes { "some" } else { "0" };
@@ -111,10 +125,61 @@ impl fmt::Display for Seen {
         for ((call, number), times) in &self.refusals {
             writeln!(f, "  {call} refused by {number}: {times}")?;
         }
-        for (what, times) in &self.notes {
-            writeln!(f, "  {what}: {times}")?;
+        for ((call, what), times) in &self.notes {
+            let call = match *call {
+                "" => String::new(),
+                call => format!("{call}, "),
+            };
+            writeln!(f, "  {call}{what}: {times}")?;
         }
         Ok(())
+    }
+}
+
+/// The calls that bring a table up to date; the bytes that each takes are a request, a context.
+#[derive(Clone, Copy, PartialEq, Eq)]
+enum Altering {
+    Decide,
+    Close,
+}
+
+impl Altering {
+    fn name(self) -> &'static str {
+        match self {
+            Altering::Decide => "decide",
+            Altering::Close => "close",
+        }
+    }
+
+    fn by_engine(self, policy: &[u8], table: &mut [u8], bytes: &[u8]) -> Reply {
+        match self {
+            Altering::Decide => plain::grant(raw::decide(policy, table, bytes)),
+            Altering::Close => engine::close(policy, table, bytes),
+        }
+    }
+
+    fn by_judge(self, policy: &[u8], table: &mut [u8], bytes: &[u8]) -> Reply {
+        match self {
+            Altering::Decide => judge::decide(policy, table, bytes),
+            Altering::Close => judge::close(policy, table, bytes),
+        }
+    }
+
+    /// The answer, and how many blocks the quick judge has written.
+    fn by_quick(self, policy: &[u8], table: &mut [u8], bytes: &[u8]) -> (Reply, usize) {
+        let (reply, written) = match self {
+            Altering::Decide => quick::decide_counting(policy, table, bytes),
+            Altering::Close => quick::close_counting(policy, table, bytes),
+        };
+        (reply, written as usize)
+    }
+
+    /// How many blocks the engine has written.
+    fn by_probe(self, policy: &[u8], table: &mut [u8], bytes: &[u8]) -> usize {
+        match self {
+            Altering::Decide => probe::decide(policy, table, bytes),
+            Altering::Close => probe::close(policy, table, bytes),
+        }
     }
 }
 
@@ -122,6 +187,7 @@ impl fmt::Display for Seen {
 pub struct Comparing {
     policy: Lent,
     table: Lent,
+    /// A request, or the context of a closing.
     request: Lent,
     guarded: Guarded,
     calls: usize,
@@ -133,7 +199,7 @@ const LONGEST_POLICY: usize = 512 * 66;
 const LONGEST_TABLE: usize = 512 * 130;
 const LONGEST_REQUEST: usize = 512;
 
-/// Every so many calls a decision is made again on a guarded table, which takes time.
+/// Every so many calls a decision or a closing is made again on a guarded table, which takes time.
 const GUARDED: usize = 4;
 
 impl Comparing {
@@ -182,13 +248,12 @@ impl Comparing {
 
     /// Decides, and brings `table` up to date.
     pub fn decide(&mut self, policy: &[u8], table: &mut [u8], request: &[u8]) -> Reply {
-        let before = table.to_vec();
-        let (reply, _) = self.decide_and_probe(policy, table, request);
-        if self.calls.is_multiple_of(GUARDED) {
-            let shift = self.calls / GUARDED % SHIFTS;
-            self.write_to_no_other(policy, &before, table, request, shift);
-        }
-        reply
+        self.alter(Altering::Decide, policy, table, request)
+    }
+
+    /// Closes a context, and brings `table` up to date.
+    pub fn close(&mut self, policy: &[u8], table: &mut [u8], context: &[u8]) -> Reply {
+        self.alter(Altering::Close, policy, table, context)
     }
 
     /// Decides. The answer, and how many blocks were written; no other was written to.
@@ -198,86 +263,131 @@ impl Comparing {
         table: &mut [u8],
         request: &[u8],
     ) -> (Reply, usize) {
+        self.alter_guarded(Altering::Decide, policy, table, request)
+    }
+
+    /// The same of a closing.
+    pub fn close_guarded(
+        &mut self,
+        policy: &[u8],
+        table: &mut [u8],
+        context: &[u8],
+    ) -> (Reply, usize) {
+        self.alter_guarded(Altering::Close, policy, table, context)
+    }
+
+    fn alter(&mut self, call: Altering, policy: &[u8], table: &mut [u8], bytes: &[u8]) -> Reply {
         let before = table.to_vec();
-        let answer = self.decide_and_probe(policy, table, request);
+        let (reply, _) = self.alter_and_probe(call, policy, table, bytes);
+        if self.calls.is_multiple_of(GUARDED) {
+            let shift = self.calls / GUARDED % SHIFTS;
+            self.write_to_no_other(call, policy, [&before, table], bytes, shift);
+        }
+        reply
+    }
+
+    fn alter_guarded(
+        &mut self,
+        call: Altering,
+        policy: &[u8],
+        table: &mut [u8],
+        bytes: &[u8],
+    ) -> (Reply, usize) {
+        let before = table.to_vec();
+        let answer = self.alter_and_probe(call, policy, table, bytes);
         for shift in 0..SHIFTS {
-            self.write_to_no_other(policy, &before, table, request, shift);
+            self.write_to_no_other(call, policy, [&before, table], bytes, shift);
         }
         answer
     }
 
-    /// Decides, and asks the probe on a copy of the table how many blocks were written.
-    fn decide_and_probe(
+    /// Makes the call, and asks the probe on a copy of the table how many blocks were written.
+    fn alter_and_probe(
         &mut self,
+        call: Altering,
         policy: &[u8],
         table: &mut [u8],
-        request: &[u8],
+        bytes: &[u8],
     ) -> (Reply, usize) {
         let before = table.to_vec();
-        let (reply, by_quick) = self.decide_alone(policy, table, request);
-        for what in ranged::meets(policy, &before, request, reply) {
+        let (reply, by_quick) = self.alter_alone(call, policy, table, bytes);
+        let met = match call {
+            Altering::Decide => ranged::meets(policy, &before, bytes, reply),
+            Altering::Close => closed::meets(policy, &before, table, bytes, reply),
+        };
+        for what in met {
             self.seen.note(what);
         }
-        let written = self.probe(policy, &before, table, request);
+        let written = self.probe(call, policy, [&before, table], bytes);
         let differing = differing_bytes(&before, table);
         assert_eq!(written, differing.len(), "the probe: blocks that differ");
         assert_eq!(written, by_quick, "the probe: the quick judge's blocks");
         if reply.is_refusal() {
             assert_eq!(written, 0, "the probe: a refusal");
         } else if written == 0 {
-            self.seen.note(NONE);
+            self.seen.note_of(call.name(), NONE);
         } else {
             let change = Change::read(policy, &before, table);
             assert_eq!(differing, change.differing(), "records differ elsewhere");
-            for what in change.meets(&differing, reply.first == 1) {
-                self.seen.note(what);
+            let recorded = call == Altering::Decide && reply.first == 1;
+            for what in change.meets(&differing, recorded) {
+                self.seen.note_of(call.name(), what);
             }
         }
         (reply, written)
     }
 
     /// The number of blocks that the probe has written, when it has left the same table.
-    fn probe(&mut self, policy: &[u8], before: &[u8], after: &[u8], request: &[u8]) -> usize {
-        self.lay(policy, before, request);
-        let (policy_lent, request_lent) = (self.policy.bytes(), self.request.bytes());
-        let written = probe::decide(policy_lent, self.table.bytes_mut(), request_lent);
+    fn probe(
+        &mut self,
+        call: Altering,
+        policy: &[u8],
+        [before, after]: [&[u8]; 2],
+        bytes: &[u8],
+    ) -> usize {
+        self.lay(policy, before, bytes);
+        let (policy_lent, bytes_lent) = (self.policy.bytes(), self.request.bytes());
+        let written = call.by_probe(policy_lent, self.table.bytes_mut(), bytes_lent);
         assert!(self.table.bytes() == after, "the probe's table is another");
-        self.nothing_altered(policy, after, request);
+        self.nothing_altered(policy, after, bytes);
         written
     }
 
-    /// Decides once more, where only blocks that differ afterwards may be written to.
+    /// Makes the call once more, where only blocks that differ afterwards may be written to.
     fn write_to_no_other(
         &mut self,
+        call: Altering,
         policy: &[u8],
-        before: &[u8],
-        after: &[u8],
-        request: &[u8],
+        [before, after]: [&[u8]; 2],
+        bytes: &[u8],
         shift: usize,
     ) {
-        let decide = |table: &mut [u8]| {
-            let _same = raw::decide(policy, table, request);
+        let alter = |table: &mut [u8]| {
+            let _same = call.by_engine(policy, table, bytes);
         };
         let differing = differing_bytes(before, after);
-        let left = self.guarded.lend(before, shift, &differing, decide);
+        let left = self.guarded.lend(before, shift, &differing, alter);
         assert!(left == after, "the table is another where it is guarded");
     }
 
     /// The answer, and how many blocks the quick judge has written.
-    fn decide_alone(&mut self, policy: &[u8], table: &mut [u8], request: &[u8]) -> (Reply, usize) {
-        self.lay(policy, table, request);
-        let reply = plain::grant(raw::decide(
-            self.policy.bytes(),
-            self.table.bytes_mut(),
-            self.request.bytes(),
-        ));
+    fn alter_alone(
+        &mut self,
+        call: Altering,
+        policy: &[u8],
+        table: &mut [u8],
+        bytes: &[u8],
+    ) -> (Reply, usize) {
+        self.lay(policy, table, bytes);
+        let (policy_lent, bytes_lent) = (self.policy.bytes(), self.request.bytes());
+        let reply = call.by_engine(policy_lent, self.table.bytes_mut(), bytes_lent);
         let (mut by_quick, mut by_judge) = (table.to_vec(), table.to_vec());
-        let (quick, written) = quick::decide_counting(policy, &mut by_quick, request);
+        let (quick, written) = call.by_quick(policy, &mut by_quick, bytes);
         assert_eq!(reply, quick, "quick judge");
-        let judge = judge::decide(policy, &mut by_judge, request);
+        let judge = call.by_judge(policy, &mut by_judge, bytes);
         assert_eq!(reply, judge, "judge");
-        self.new_table(reply, policy, table, request, &by_quick, &by_judge);
-        (self.done("decide", reply), written as usize)
+        self.new_table(reply, policy, table, bytes, &by_quick, &by_judge);
+        (self.done(call.name(), reply), written)
     }
 
     /// Previews; no lent byte is altered, whatever the answer.

@@ -1,13 +1,16 @@
 //! Lists of calls put to one table, and the shortest beginning of one that fails.
 
 use super::chance::Chance;
+use super::closed::{Since, Step};
 use super::compare::{Comparing, Seen};
 use super::plain::line;
+use super::world::closing_bytes;
 use super::written::differing_bytes;
 use crate::independent::images::*;
 use crate::independent::judge;
 use crate::independent::register::Register;
 use crate::independent::Reply;
+use std::collections::BTreeSet;
 use std::fmt::Write;
 use std::panic::{catch_unwind, resume_unwind, set_hook, take_hook, AssertUnwindSafe};
 use std::sync::Mutex;
@@ -20,12 +23,15 @@ pub struct List {
     pub every: usize,
 }
 
-/// What is done with a request, whose bytes these are.
+/// What is done with a request, or with a context, whose bytes these are.
 pub enum Call {
     Decide(Vec<u8>),
     Preview(Vec<u8>),
     /// A preview, and directly after it the decision.
     Both(Vec<u8>),
+    Close(Vec<u8>),
+    /// The table is checked.
+    Check,
 }
 
 impl Call {
@@ -45,6 +51,53 @@ impl Call {
             calls.push(decide(request.clone()));
         }
         calls
+    }
+
+    /// Before so many of a hundred calls a context is closed, mostly one that some request of the list
+    /// is in; and now and then the table is checked.
+    pub fn with_closings(chance: &mut Chance, calls: Vec<Call>, of_a_hundred: usize) -> Vec<Call> {
+        let contexts: Vec<Context> = calls.iter().filter_map(Call::context).collect();
+        let mut mixed = vec![];
+        for call in calls {
+            if chance.percent(of_a_hundred) && !contexts.is_empty() {
+                let context = chance.pick(&contexts);
+                mixed.push(Call::Close(closing_bytes(chance, &context)));
+            }
+            if chance.percent(1) {
+                mixed.push(Call::Check);
+            }
+            mixed.push(call);
+        }
+        mixed
+    }
+
+    /// The context of a good request.
+    fn context(&self) -> Option<Context> {
+        match self {
+            Call::Decide(request) | Call::Both(request) => {
+                read_request(request).ok().map(|request| request.context)
+            }
+            _ => None,
+        }
+    }
+
+    /// In words; what stands in front of the bytes where these are bad.
+    fn text(&self) -> String {
+        let request = |name: &str, bytes: &[u8]| {
+            let words = hastovimen::Request::read(bytes);
+            let words = words.map_or(format!("{bytes:?}"), |request| request.to_string());
+            format!("{name}{words}")
+        };
+        match self {
+            Call::Decide(bytes) => request("", bytes),
+            Call::Preview(bytes) => request("preview of ", bytes),
+            Call::Both(bytes) => request("preview and decision of ", bytes),
+            Call::Close(bytes) => match read_closing(bytes) {
+                Ok(levels) => format!("closing of {levels:?}"),
+                Err(_) => format!("closing of {bytes:?}"),
+            },
+            Call::Check => "check of the table".to_string(),
+        }
     }
 }
 
@@ -89,6 +142,7 @@ impl List {
             policy,
             table,
             along,
+            since: Since::default(),
         };
         for call in &self.calls[..length] {
             if let Call::Decide(request) | Call::Both(request) = call {
@@ -123,9 +177,12 @@ impl List {
         }
     }
 
-    /// Whether its beginning fails, with everything asked after every grant.
+    /// Whether its beginning fails, with everything asked after every grant; in a long list, where that
+    /// would take minutes, as often as ever.
     fn fails(&self, length: usize) -> bool {
-        let play = || self.play(&mut Comparing::new(), length, 1, |_, _, _| {});
+        let long = self.calls.len() > 1_000;
+        let every = if long { self.every } else { 1 };
+        let play = || self.play(&mut Comparing::new(), length, every, |_, _, _| {});
         silently(|| catch_unwind(AssertUnwindSafe(play)).is_err())
     }
 
@@ -142,22 +199,28 @@ impl List {
         let held = judge::check_table(&self.policy, &table).first;
         writeln!(text, "blocks of the table: {blocks}; records: {held}").unwrap();
         for (i, call) in self.calls[..length].iter().enumerate() {
-            let (name, request) = match call {
-                Call::Decide(request) => ("", request),
-                Call::Preview(request) => ("preview of ", request),
-                Call::Both(request) => ("preview and decision of ", request),
-            };
-            let words = hastovimen::Request::read(request);
-            let words = words.map_or(format!("{request:?}"), |request| request.to_string());
             let before = table.clone();
-            let answer = line(match call {
-                Call::Preview(_) => judge::preview(&self.policy, &table, request),
-                _ => judge::decide(&self.policy, &mut table, request),
-            });
+            let answer = match call {
+                Call::Decide(request) | Call::Both(request) => {
+                    line(judge::decide(&self.policy, &mut table, request))
+                }
+                Call::Preview(request) => line(judge::preview(&self.policy, &table, request)),
+                Call::Close(context) => counted(judge::close(&self.policy, &mut table, context)),
+                Call::Check => counted(judge::check_table(&self.policy, &table)),
+            };
             let blocks = differing_bytes(&before, &table).len();
-            writeln!(text, "{} {name}{words}: {answer}; blocks {blocks}", i + 1).unwrap();
+            let words = call.text();
+            writeln!(text, "{} {words}: {answer}; blocks {blocks}", i + 1).unwrap();
         }
         text
+    }
+}
+
+/// The answer of a closing or a check in words.
+fn counted(reply: Reply) -> String {
+    match reply.number {
+        0 => reply.first.to_string(),
+        _ => line(reply),
     }
 }
 
@@ -167,6 +230,7 @@ struct Play<'l> {
     policy: &'l [u8],
     table: Vec<u8>,
     along: Option<Along>,
+    since: Since,
 }
 
 impl Play<'_> {
@@ -186,6 +250,8 @@ impl Play<'_> {
                 let foreseen = self.preview(request);
                 assert_eq!(foreseen, self.decide(request), "the preview");
             }
+            Call::Close(context) => self.close(context),
+            Call::Check => self.check(),
         }
     }
 
@@ -194,22 +260,63 @@ impl Play<'_> {
     }
 
     fn decide(&mut self, request: &[u8]) -> Reply {
+        let before = self.table.clone();
         let reply = (self.comparing).decide(self.policy, &mut self.table, request);
         if let Some(along) = &mut self.along {
-            along.take(request, reply, &self.table);
+            along.take(request, reply, &self.table, &mut self.comparing.seen);
+            self.note(&before, request, reply, Since::decision);
         }
         reply
     }
 
-    fn end(self) {
-        if let Some(along) = self.along {
-            let held = self.comparing.check_table(self.policy, &self.table);
+    fn close(&mut self, context: &[u8]) {
+        let before = self.table.clone();
+        let reply = (self.comparing).close(self.policy, &mut self.table, context);
+        if let Some(along) = &mut self.along {
+            along.close(context, reply, &self.table, &mut self.comparing.seen);
+            self.note(&before, context, reply, Since::closing);
+        }
+    }
+
+    /// Takes down what a list from a fresh table has met with by its closings.
+    fn note(
+        &mut self,
+        before: &[u8],
+        bytes: &[u8],
+        reply: Reply,
+        meets: impl Fn(&mut Since, &Step) -> BTreeSet<&'static str>,
+    ) {
+        let step = Step {
+            policy: self.policy,
+            before,
+            after: &self.table,
+            bytes,
+            reply,
+        };
+        for what in meets(&mut self.since, &step) {
+            self.comparing.seen.note(what);
+        }
+    }
+
+    /// A table from a fresh one holds what was recorded and not removed.
+    fn check(&mut self) {
+        let held = self.comparing.check_table(self.policy, &self.table);
+        if let Some(along) = &self.along {
             assert_eq!(held, Reply::accept(along.held()));
+        }
+    }
+
+    fn end(mut self) {
+        if self.along.is_some() {
+            self.check();
         }
     }
 }
 
-/// The register that goes along with a list from a fresh table, and what the grants add up to.
+/// What is taken down where a list has no closing.
+pub const BY_DOCUMENT_01: &str = "runs step by step are those of document 01's own words";
+
+/// The register that goes along with a list from a fresh table, and what its answers add up to.
 struct Along {
     register: Register,
     every: usize,
@@ -218,21 +325,43 @@ struct Along {
 }
 
 impl Along {
-    fn take(&mut self, request: &[u8], reply: Reply, table: &[u8]) {
+    fn take(&mut self, request: &[u8], reply: Reply, table: &[u8], seen: &mut Seen) {
         let harmless = reply.is_refusal() || self.register.could_take(request);
         assert_eq!(reply, self.register.answer(request), "the register");
-        let same = table == self.register.image();
-        assert!(same, "the register's image is another");
+        self.same_image(table);
         if reply.is_refusal() {
             return;
         }
         assert!(harmless, "somebody has reached m with this step");
-        if self.register.grants().is_multiple_of(self.every) {
-            assert!(self.register.nobody_has_reached_m());
-        }
+        self.nobody_has_reached_m(seen);
         self.recorded += reply.first;
         self.removed += reply.second;
         assert_eq!(self.held(), reply.third as usize);
+    }
+
+    fn close(&mut self, context: &[u8], reply: Reply, table: &[u8], seen: &mut Seen) {
+        assert_eq!(reply, self.register.close(context), "the register");
+        self.same_image(table);
+        if !reply.is_refusal() {
+            self.nobody_has_reached_m(seen);
+            self.removed += reply.first;
+        }
+    }
+
+    fn same_image(&self, table: &[u8]) {
+        let same = table == self.register.image();
+        assert!(same, "the register's image is another");
+    }
+
+    /// Asked after every so many entries; with it, whether the runs are document 01's.
+    fn nobody_has_reached_m(&self, seen: &mut Seen) {
+        if self.register.entries().is_multiple_of(self.every) {
+            assert!(self.register.nobody_has_reached_m());
+            if let Some(same) = self.register.is_document_01s() {
+                assert!(same, "runs step by step are not document 01's");
+                seen.note(BY_DOCUMENT_01);
+            }
+        }
     }
 
     fn held(&self) -> usize {

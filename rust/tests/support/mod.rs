@@ -6,8 +6,10 @@
 
 pub mod busy;
 pub mod chance;
+pub mod closed;
 pub mod compare;
 pub mod damage;
+pub mod engine;
 pub mod guarded;
 pub mod lent;
 pub mod lists;

@@ -19,6 +19,12 @@ pub struct World {
     values: Vec<u16>,
 }
 
+/// One thing of an episode.
+pub enum Asked {
+    Request(Request),
+    Closing(Context),
+}
+
 /// How big a world is made.
 struct Size {
     rules: usize,
@@ -93,6 +99,27 @@ impl World {
         }
         world.image = write_policy(&world.policy);
         world
+    }
+
+    /// A world of runs that first steps open, over few levels of contexts that go deeper, so that the
+    /// steps of one run lie in several contexts.
+    pub fn opened(chance: &mut Chance) -> World {
+        let size = Size {
+            rules: chance.from(1, 3),
+            exclusions: (1, 2),
+            users: chance.from(2, 4),
+            roles: chance.from(3, 6),
+            privileges: chance.from(3, 5),
+            values: chance.from(1, 3),
+            permissions: (2, 40),
+            depths: &[0, 1, 1, 1, 2],
+            fixed: 10,
+            members: 3,
+            lenient: 90,
+            first: 90,
+            last: 50,
+        };
+        World::of(chance, size)
     }
 
     /// The biggest policies: 32 rules of 8 exclusions, 64 blocks.
@@ -290,6 +317,12 @@ impl World {
         let step = chance.pick(&[rule.first, rule.last, rule.last]);
         let privilege = step.unwrap_or_else(|| self.permitted_privilege(chance));
         let depth = chance.from(rule.levels.len(), 4);
+        let context = self.context_for(chance, &rule, depth);
+        self.request_in(chance, privilege, context)
+    }
+
+    /// A context at least as deep as the rule's, which fits it or is one past its range.
+    fn context_for(&self, chance: &mut Chance, rule: &Rule, depth: usize) -> Context {
         let mut context = self.context(chance, depth);
         for (level, (kind, value)) in rule.levels.iter().zip(&mut context) {
             *kind = level.kind;
@@ -299,6 +332,11 @@ impl World {
                 Mark::Every | Mark::Each => {}
             }
         }
+        context
+    }
+
+    /// Somebody asks for this in some role that is permitted it.
+    fn request_in(&self, chance: &mut Chance, privilege: Privilege, context: Context) -> Request {
         let role = self.role_for(chance, privilege);
         Request {
             user: chance.pick(&self.users),
@@ -306,6 +344,53 @@ impl World {
             privilege,
             context,
         }
+    }
+
+    /// What may happen to one run: its first step, other steps of its place in several contexts, the
+    /// closing of one of these, and what is asked for after it.
+    pub fn episode(&self, chance: &mut Chance) -> Vec<Asked> {
+        let rule = chance.pick(&self.policy.rules);
+        let base = self.context_for(chance, &rule, rule.levels.len());
+        let there = |chance: &mut Chance| {
+            let more = chance.from(base.len(), 4);
+            let deeper = self.context(chance, more);
+            [&base, &deeper[base.len()..]].concat()
+        };
+        let others: Vec<Privilege> = (self.privileges.iter().copied())
+            .filter(|&one| Some(one) != rule.first && Some(one) != rule.last)
+            .collect();
+        let other = |chance: &mut Chance| match (rule.last, chance.below(12)) {
+            (Some(last), 0) => last,
+            (_, 1) => self.privilege(chance),
+            _ if others.is_empty() => self.privilege(chance),
+            _ => chance.pick(&others),
+        };
+        let opening = if chance.percent(30) {
+            base.clone()
+        } else {
+            there(chance)
+        };
+        let mut contexts = vec![opening];
+        let first = rule.first.unwrap_or_else(|| other(chance));
+        let mut asked = vec![self.request_in(chance, first, contexts[0].clone())];
+        for _ in 0..chance.from(1, 6) {
+            contexts.push(there(chance));
+            let (privilege, context) = (other(chance), contexts[contexts.len() - 1].clone());
+            asked.push(self.request_in(chance, privilege, context));
+        }
+        let mut closed = contexts[chance.pick(&[0, 0, 1])].clone();
+        closed.truncate(chance.from(base.len(), closed.len()));
+        let mut episode: Vec<Asked> = asked.into_iter().map(Asked::Request).collect();
+        episode.push(Asked::Closing(closed));
+        for _ in 0..chance.from(1, 5) {
+            let privilege = match (rule.last, chance.below(4)) {
+                (Some(last), 0) => last,
+                _ => other(chance),
+            };
+            let context = there(chance);
+            episode.push(Asked::Request(self.request_in(chance, privilege, context)));
+        }
+        episode
     }
 
     fn permitted_privilege(&self, chance: &mut Chance) -> Privilege {
@@ -443,6 +528,62 @@ pub fn request_bytes(chance: &mut Chance, request: &Request, damaged: usize) -> 
             let at = chance.below(REQUEST);
             bytes[at] = chance.pick(&[0, 1, 2, 255]);
         }
+    }
+    bytes
+}
+
+/// The bytes of a context to be closed, after one in which something is done: mostly a beginning of it,
+/// often its first level alone; now and then no level, other numbers, one level more. A few in a
+/// hundred are damaged in length or content.
+pub fn closing_bytes(chance: &mut Chance, near: &Context) -> Vec<u8> {
+    let mut levels = near.clone();
+    levels.truncate(match chance.below(20) {
+        0 => 0,
+        1..=8 => 1,
+        9..=13 => 2,
+        14..=16 => 3,
+        _ => 4,
+    });
+    match chance.below(20) {
+        0 if !levels.is_empty() => {
+            let i = chance.below(levels.len());
+            levels[i].0 = chance.pick(&levels).1;
+        }
+        1 if !levels.is_empty() => {
+            let i = chance.below(levels.len());
+            levels[i].1 = chance.from(1, 65535) as u16;
+        }
+        2 if levels.len() > 1 => levels.swap(0, 1),
+        3 if levels.len() < 4 => levels.push((chance.from(1, 5) as u16, chance.from(1, 5) as u16)),
+        4 if !levels.is_empty() => {
+            let i = chance.below(levels.len());
+            levels[i].0 ^= 1 << chance.below(16);
+            levels[i].0 = levels[i].0.max(1);
+        }
+        _ => {}
+    }
+    damaged_context(chance, write_context(&levels).to_vec(), 6)
+}
+
+/// So many of a hundred are damaged in length or content.
+pub fn damaged_context(chance: &mut Chance, mut bytes: Vec<u8>, damaged: usize) -> Vec<u8> {
+    if !chance.percent(damaged) {
+        return bytes;
+    }
+    match chance.below(8) {
+        0 => bytes.truncate(chance.below(CONTEXT)),
+        1 => bytes.extend((0..chance.from(1, 20)).map(|_| 0)),
+        2 => bytes.resize(chance.pick(&[0, 15, 17, REQUEST, RECORD]), 1),
+        3 | 4 => {
+            let field = 2 * chance.below(8);
+            bytes[field..field + 2].fill(0);
+        }
+        5 => {
+            let level = 4 * chance.below(4);
+            bytes[level..level + 4].fill(0);
+        }
+        6 => bytes[2 * chance.below(8)] ^= 1,
+        _ => bytes[chance.below(CONTEXT)] = chance.pick(&[0, 1, 2, 255]),
     }
     bytes
 }

@@ -1,4 +1,4 @@
-//! Which blocks of a table a grant must have written, found slowly: those whose records differ.
+//! Which blocks of a table a grant or a closing must have written, found slowly: those whose records differ.
 
 use crate::independent::images::*;
 use crate::independent::judge::fits;
@@ -12,7 +12,7 @@ pub fn differing_bytes(before: &[u8], after: &[u8]) -> Vec<usize> {
         .collect()
 }
 
-/// The records of a table before and after a grant.
+/// The records of a table before and after a call that altered it.
 pub struct Change {
     before: Vec<Record>,
     after: Vec<Record>,
@@ -45,7 +45,7 @@ impl Change {
         )
     }
 
-    /// What of [`MET`] came of a grant that wrote these blocks, at least one.
+    /// What of [`MET`] came of a call that wrote these blocks, at least one.
     pub fn meets(&self, written: &[usize], recorded: bool) -> Vec<&'static str> {
         let used = |records: &[Record]| records.len().div_ceil(RECORDS_PER_BLOCK);
         let (used_before, used_after) = (used(&self.before), used(&self.after));
@@ -100,7 +100,7 @@ fn in_block(records: &[Record], number: usize) -> &[Record] {
         .unwrap_or_default()
 }
 
-// What is taken down of a grant. A block in use is one that has records before or after.
+// What is taken down of a grant or a closing. A block in use is one that has records before or after.
 pub const NONE: &str = "no block written";
 const ONE: &str = "one block written";
 const SEVERAL: &str = "two or more blocks written";
@@ -130,4 +130,18 @@ pub const MET: [&str; 13] = [
     ONLY_RECORD,
     SHRUNK,
     RESTORED,
+];
+
+/// What of it a closing can meet with, which clears no mark of what it keeps and puts nothing behind. A
+/// block whose marks alone differ has got other records.
+pub const MET_BY_CLOSING: [&str; 9] = [
+    NONE,
+    ONE,
+    SEVERAL,
+    ALL,
+    SAME_BEHIND,
+    SAME_THOUGH_MOVED,
+    FOR_MARKS,
+    ONLY_RECORD,
+    SHRUNK,
 ];

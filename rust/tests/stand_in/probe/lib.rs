@@ -1,4 +1,4 @@
-//! The C function of the engine's probe (rust/tests/probe) from the independent judge.
+//! The C functions of the engine's probe (rust/tests/probe) from the independent judge.
 //!
 //! Both archives of the stand-in bring Rust's standard library along. That does no harm: a linker
 //! takes from an archive only what is still missing, and the two share no other name.
@@ -26,4 +26,21 @@ unsafe extern "C" fn sod_probe_decide(
         lent(request, request_len),
     );
     written as usize
+}
+
+#[no_mangle]
+unsafe extern "C" fn sod_probe_close(
+    policy: *const u8,
+    policy_len: usize,
+    table: *mut u8,
+    table_len: usize,
+    context: *const u8,
+    context_len: usize,
+) -> usize {
+    let closed = quick::close_counting(
+        lent(policy, policy_len),
+        lent_mut(table, table_len),
+        lent(context, context_len),
+    );
+    closed.1 as usize
 }

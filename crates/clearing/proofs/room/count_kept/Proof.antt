@@ -7,7 +7,7 @@ use mathlib.Core.List.{[], _∷_}
 use lib.ListN.{length, length-append}
 use Rattle.format.specs.Records.{recordHere, recordsHere}
 use Rattle.clearing.specs.Cleared.{leftBy}
-use Rattle.clearing.proofs.Left.{left-start, left-more}
+use Rattle.clearing.proofs.Left.{left-by-one, rest-start, rest-more}
 use Rattle.clearing.proofs.Settled.{left-count}
 use borrow.Author.Needs.{needs}
 use Rattle.clearing.proofs.room.count_kept.Statement.{statement}
@@ -23,7 +23,7 @@ abbrev μ-loop : tie.MeasureT-loop
 loop-holds : tie.Need-loop-holds Inv-loop μ-loop
 loop-holds c =
     let a = c .before .before .args in
-    (omega arith, (omega arith, sym (ap length (left-start (a .ending .each) (a .q .now) (a .ending .rules .0) (a .table .now)))))
+    (omega arith, (omega arith, sym (ap length (rest-start (left-by-one (a .ending .each) (a .q .now) (a .ending .rules .0)) (a .table .now)))))
 
 outside-to-requires : tie.Need-outside-to-requires Inv-loop μ-loop
 outside-to-requires c κs =
@@ -73,7 +73,7 @@ loop-again-2 c =
       (
         omega arith,
         ap₂ (λ (x y : ℕ). x + y) (l .inv .1 .1) (c .stays .ensures .0)
-            ∙ sym (ap length (left-more (a .ending .each) (a .q .now) (a .ending .rules .0) s (l .i))
+            ∙ sym (ap length (rest-more (left-by-one (a .ending .each) (a .q .now) (a .ending .rules .0)) s (l .i))
             ∙ length-append (leftBy (a .ending .each) (a .q .now) (a .ending .rules .0) (recordsHere s (l .i))) (leftBy (a .ending .each) (a .q .now) (a .ending .rules .0) (recordHere s (l .i) ∷ []))),
       ),
     )

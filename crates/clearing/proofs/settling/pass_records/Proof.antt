@@ -8,9 +8,9 @@ use lib.ListN.{length}
 use Rattle.word_laws.proofs.Every.{Every}
 use Rattle.word_laws.proofs.Bytes.{Byte}
 use Rattle.format.specs.Block.{blocks}
+use Rattle.format.specs.Table.{Record}
 use Rattle.format.specs.Records.{recordFrom, recordHere}
 use Rattle.fields.specs.Code.{HasRoom}
-use Rattle.matching.specs.declared.masks.Each.{Each}
 use Rattle.table_write.proofs.SliceBytes.{slice-bytes}
 use Rattle.clearing.specs.Settling.{Settling, StayIn}
 use Rattle.clearing.proofs.Settled.{settle-stay, settle-move}
@@ -22,8 +22,7 @@ abbrev Inv-loop : tie.InvT-loop
 Inv-loop table₀ from to held₀ changed₀ i₀ table held changed i =
     ((from ≤ i) × (i ≤ to) × (held ≤ i))
     × ((length table ≡ length table₀) × Every Byte table)
-    × ((e : Each) (q : List ℕ) (ends : ℕ) (s : List ℕ) → StayIn e q ends s from to → Settling e q ends s from table₀ held₀ changed₀
-    → Settling e q ends s i table held changed)
+    × ((rest : List Record → List Record) (s : List ℕ) → StayIn rest s from to → Settling rest s from table₀ held₀ changed₀ → Settling rest s i table held changed)
 
 abbrev μ-loop : tie.MeasureT-loop
 μ-loop table₀ from to held₀ changed₀ i₀ table held changed i = to - i
@@ -32,13 +31,13 @@ returns : tie.Need-returns Inv-loop μ-loop
 returns c =
     let s = c .before .before .before in
     let a = s .args in
-    (λ e q ends t stays w. settle-stay e q ends (a .from) (a .left .held) (a .to) w (c .if1 .taken) (s .pre .1) stays, omega arith)
+    (λ rest t stays w. settle-stay (a .from) (a .left .held) (a .to) w (c .if1 .taken) (s .pre .1) stays, omega arith)
 
 loop-holds : tie.Need-loop-holds Inv-loop μ-loop
 loop-holds c =
     let k = c .before .before in
     let p = k .before .pre in
-    ((omega arith, p .1, p .0), (refl, slice-bytes _ (k .slice-known .given)), λ e q ends s stays w. w)
+    ((omega arith, p .1, p .0), (refl, slice-bytes _ (k .slice-known .given)), λ rest s stays w. w)
 
 -- from the loop's head to the start; the table has room still
 abbrev began : tie.At-loop Inv-loop μ-loop → tie.Start Inv-loop μ-loop
@@ -91,9 +90,9 @@ loop-again c =
     let marks : m .marks .result .0 ≡ recordHere (l .table) (l .i) .marks = m .marks .ensures ∙ ap (λ at. recordFrom (l .table) at .marks) (p .record-start .ensures) in (
       (omega (arith, l .inv .0 .0), omega (arith, more), omega (arith, l .inv .0 .2)),
       (d .place .kept .0 ∙ l .inv .1 .0, slice-bytes _ (c .slice-known2 .given)),
-      λ e q ends s stays w.
-          let v = l .inv .2 e q ends s stays w in
-          settle-move e q ends v (blocks (l .table)) (m .marks .result .0) (d .place .result) (sym (v .placed .long) ∙ r .whole) (omega (arith, more, r .few)) (l .inv .1 .1)
+      λ rest s stays w.
+          let v = l .inv .2 rest s stays w in
+          settle-move v (blocks (l .table)) (m .marks .result .0) (d .place .result) (sym (v .placed .long) ∙ r .whole) (omega (arith, more, r .few)) (l .inv .1 .1)
           (placed .0) (placed .1) marks (stays (l .i) (l .inv .0 .0) more),
     )
 

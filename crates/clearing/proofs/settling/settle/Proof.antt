@@ -6,7 +6,9 @@ use mathlib.Core.Path.{_≡_, sym, _∙_}
 use borrow.Author.Tests.{eqb-true}
 use Rattle.fields.specs.Code.{HasRoom}
 use Rattle.table_write.proofs.Placed.{room-placed}
+use Rattle.clearing.specs.Cleared.{leftBy}
 use Rattle.clearing.specs.Settling.{Settling}
+use Rattle.clearing.proofs.Left.{left-by-one}
 use Rattle.clearing.proofs.Settled.{settle-start, settle-none, left-here}
 use borrow.Author.Needs.{needs}
 use Rattle.clearing.proofs.settling.settle.Statement.{statement}
@@ -14,7 +16,7 @@ use Rattle.clearing.proofs.settling.settle.Tie as tie
 
 abbrev Inv-loop : tie.InvT-loop
 Inv-loop ending q table₀ n settled₀ i₀ table settled i =
-    (i ≤ n) × Settling (ending .each) q (ending .rules .0) table₀ i table (settled .held) (settled .changed)
+    (i ≤ n) × Settling (leftBy (ending .each) q (ending .rules .0)) table₀ i table (settled .held) (settled .changed)
 
 abbrev μ-loop : tie.MeasureT-loop
 μ-loop ending q table₀ n settled₀ i₀ table settled i = n - i
@@ -38,7 +40,7 @@ loop-holds : tie.Need-loop-holds Inv-loop μ-loop
 loop-holds c =
     let o = c .before .before in
     let a = o .before .before .before .args in
-    (omega arith, rw (o .none .ensures) (settle-start (a .ending .each) (a .q .now) (a .ending .rules .0) (a .table .now)))
+    (omega arith, rw (o .none .ensures) (settle-start (left-by-one (a .ending .each) (a .q .now) (a .ending .rules .0)) (a .table .now)))
 
 -- from the loop's head to the start
 abbrev began : tie.At-loop Inv-loop μ-loop → tie.Start Inv-loop μ-loop
@@ -74,7 +76,7 @@ loop-again c =
     let e = o .outside-to .ensures in
     let t = a .table .now in (
       e .1,
-      d .pass-records .ensures .0 (a .ending .each) (a .q .now) (a .ending .rules .0) t
+      d .pass-records .ensures .0 (leftBy (a .ending .each) (a .q .now) (a .ending .rules .0)) t
           (λ k lo hi. left-here t (a .n) (s .pre .1 .0 .1) (a .ending .each) (a .q .now) (a .ending .rules .0) (a .ending .near) (s .pre .1 .1) k (omega (arith, hi, e .1)) (e .2 k lo hi))
           (h .loop .inv .1),
     )

@@ -1,16 +1,15 @@
 -- `crate::settling::settle_record` meets its contract.
 -- Assumes nothing.
-use Prim.Native.Nat.{ℕ, _≤_}
+use Prim.Native.Nat.{_≤_}
 use native.Mathlib.Omega.{arith}
 use mathlib.Core.Path.{_≡_, sym, ap, _∙_}
-use mathlib.Core.List.{List, _++_}
+use mathlib.Core.List.{[], _∷_}
 use borrow.Author.Tests.{eqb-true, eqb-false}
-use Rattle.words.specs.Bytes.{bytes4}
 use Rattle.format.specs.Block.{blocks}
-use Rattle.format.specs.Records.{recordStart, recordFrom, recordHere}
-use Rattle.table_write.specs.Writing.{over, Noted}
+use Rattle.format.specs.Records.{recordFrom, recordHere}
 use Rattle.table_write.proofs.SliceBytes.{slice-bytes}
-use Rattle.clearing.specs.Cleared.{clearedBy}
+use Rattle.clearing.specs.Cleared.{clearedBy, leftBy}
+use Rattle.clearing.proofs.Left.{left-none, left-with}
 use Rattle.clearing.proofs.Settled.{settle-drop, settle-put}
 use borrow.Author.Needs.{needs}
 use Rattle.clearing.proofs.settling.settle_record.Statement.{statement}
@@ -49,8 +48,9 @@ returns c =
     let s = call (k .before) in
     let a = s .args in (
       λ t w.
-          settle-drop (a .ending .each) (a .q .now) (a .ending .rules .0) w
-          (sym (left-are k) ∙ eqb-true (k .cleared-marks .result .0) 0 (sym (e .is-empty .ensures) ∙ c .if1 .taken)),
+          settle-drop w
+          (left-none (a .ending .each) (a .q .now) (a .ending .rules .0) (recordHere (a .table .now) (a .i))
+          (sym (left-are k) ∙ eqb-true (k .cleared-marks .result .0) 0 (sym (e .is-empty .ensures) ∙ c .if1 .taken))),
       omega (arith, s .pre .1),
     )
 
@@ -58,8 +58,15 @@ returns c =
 abbrev kept : tie.Else1 → tie.After-cleared-marks
 kept c = c .before .before
 
-some : (c : tie.Else1) → kept c .cleared-marks .result .0 ≡ 0 → ⊥
-some c = eqb-false (kept c .cleared-marks .result .0) 0 (sym (c .before .is-empty .ensures) ∙ c .if1 .left)
+left : (c : tie.Else1) → let a = call (kept c .before) .args in
+    let r = recordHere (a .table .now) (a .i) in
+    let m = kept c .cleared-marks .result .0 in
+    (m ≤ r .marks) × (leftBy (a .ending .each) (a .q .now) (a .ending .rules .0) (r ∷ []) ≡ record { request = r .request; marks = m } ∷ [])
+left c =
+    let k = kept c in
+    let a = call (k .before) .args in
+    left-with (a .ending .each) (a .q .now) (a .ending .rules .0) (recordHere (a .table .now) (a .i)) (left-are k)
+    (eqb-false (k .cleared-marks .result .0) 0 (sym (c .before .is-empty .ensures) ∙ c .if1 .left))
 
 add-next : tie.Need-add-next
 add-next c =
@@ -86,8 +93,8 @@ returns-2 c =
     let here : a .left .held ≡ a .i = i .if2 .taken in (
       λ t w.
           rw here
-          (settle-put (a .ending .each) (a .q .now) (a .ending .rules .0) (rw here at w) (blocks (a .table .now)) (k .cleared-marks .result .0) (d .remark .result)
-          (sym (w .placed .long) ∙ h .whole) (omega (arith, h .few)) bytes (d .remark .ensures .0) (d .remark .ensures .1) (left-are k) (some o)),
+          (settle-put (rw here at w) (blocks (a .table .now)) (k .cleared-marks .result .0) (d .remark .result)
+          (sym (w .placed .long) ∙ h .whole) (omega (arith, h .few)) bytes (d .remark .ensures .0) (d .remark .ensures .1) (left o)),
       omega (arith, s .pre .1),
     )
 
@@ -107,8 +114,8 @@ returns-3 c =
     let h = s .pre .2 in
     let bytes = slice-bytes (a .table .now) (k .before .before .before .before .slice-known .given) in (
       λ t w.
-          settle-put (a .ending .each) (a .q .now) (a .ending .rules .0) w (blocks (a .table .now)) (k .cleared-marks .result .0) (d .place .result)
-          (sym (w .placed .long) ∙ h .whole) (omega (arith, h .few)) bytes (d .place .ensures .0) (d .place .ensures .1) (left-are k) (some o),
+          settle-put w (blocks (a .table .now)) (k .cleared-marks .result .0) (d .place .result)
+          (sym (w .placed .long) ∙ h .whole) (omega (arith, h .few)) bytes (d .place .ensures .0) (d .place .ensures .1) (left o),
       omega (arith, s .pre .1),
     )
 

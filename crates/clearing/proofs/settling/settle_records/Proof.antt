@@ -5,6 +5,7 @@ use native.Mathlib.Omega.{arith}
 use mathlib.Core.Path.{_≡_, refl, _∙_}
 use mathlib.Core.List.{List}
 use lib.ListN.{length}
+use Rattle.clearing.specs.Cleared.{leftBy}
 use Rattle.clearing.specs.Settling.{Settling}
 use borrow.Author.Needs.{needs}
 use Rattle.clearing.proofs.settling.settle_records.Statement.{statement}
@@ -15,8 +16,8 @@ Inv-loop ending q table₀ from to settled₀ i₀ table settled i =
     (i ≤ to)
     × (settled .held ≤ i)
     × (length table ≡ length table₀)
-    × ((s : List ℕ) → Settling (ending .each) q (ending .rules .0) s from table₀ (settled₀ .held) (settled₀ .changed)
-    → Settling (ending .each) q (ending .rules .0) s i table (settled .held) (settled .changed))
+    × ((s : List ℕ) → Settling (leftBy (ending .each) q (ending .rules .0)) s from table₀ (settled₀ .held) (settled₀ .changed)
+    → Settling (leftBy (ending .each) q (ending .rules .0)) s i table (settled .held) (settled .changed))
 
 abbrev μ-loop : tie.MeasureT-loop
 μ-loop ending q table₀ from to settled₀ i₀ table settled i = to - i

@@ -6,11 +6,12 @@ use Rattle.format.specs.Answer.{Answer}
 use Rattle.format.specs.Block.{blocks}
 use Rattle.format.specs.Table.{recordsOf}
 use Rattle.format_laws.proofs.Altered.{blocks-none}
+use Rattle.judge.specs.Written.{decidedBlocks}
 use Rattle.table_write.proofs.SliceBytes.{slice-bytes}
 use Rattle.update.proofs.Standing.{standing}
 use Rattle.engine.specs.Code.{outcome}
 use Rattle.engine.specs.Examined.{ExaminedIs}
-use Rattle.engine.proofs.Judged.{counted}
+use Rattle.engine.proofs.Rows.{counted}
 use Rattle.engine.proofs.deciding.decide_counted.Statement.{statement}
 use Rattle.engine.proofs.deciding.decide_counted.Tie as tie
 
@@ -40,17 +41,19 @@ same-length : tie.Need-same-length
 same-length c = search needs
 
 returns : tie.Need-returns
+unfolding decidedBlocks
 returns c =
     let x = c .before .before .before in
     let a = x .before .before .before .before .before .args in
     let t = a .table .now in
     let refused = subst (ExaminedIs (a .policy .now) t (a .request .now)) (c .before .examined .given .1) (x .examine .ensures) in
-    (refused, counted (a .policy .now) t (a .request .now) refused (sym (blocks-none (blocks t) (recordsOf t))))
+    (refused, counted t refused (sym (blocks-none (blocks t) (recordsOf t))))
 
 same-length-2 : tie.Need-same-length-2
 same-length-2 c = search needs
 
 returns-2 : tie.Need-returns-2
+unfolding decidedBlocks
 returns-2 c =
     let u = c .before .before .before in
     let e = u .before .before .before in
@@ -59,7 +62,7 @@ returns-2 c =
     let p = subst (ExaminedIs (a .policy .now) (a .table .now) (a .request .now)) (e .examined2 .given .1) (x .examine .ensures) in
     let after = u .update .ensures _ (p .judged) in
     let decided = ap (λ (y : Answer). outcome y (u .update .last .1 .1 .1 .1 .0)) (c .reply-of .ensures) ∙ after .0 ∙ p .rest in
-    (decided, counted (a .policy .now) (a .table .now) (a .request .now) decided (after .1))
+    (decided, counted (a .table .now) decided (after .1))
 
 pub decide-counted-spec : {M : Type 1} → statement M
 decide-counted-spec =

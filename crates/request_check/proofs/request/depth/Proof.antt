@@ -1,58 +1,20 @@
 -- `request_check::request::depth` meets its contract.
 -- Assumes nothing.
-use Prim.Native.Nat.{ℕ}
-use lib.ListN.{getD}
+use mathlib.Core.Path.{sym, ap, _∙_}
 use borrow.Author.Needs.{needs}
-use Rattle.word_laws.proofs.Bytes.{Byte}
-use Rattle.request_check.proofs.RequestWords.{depth-at}
+use Rattle.format.specs.Request.{depthOf}
+use Rattle.request_check.proofs.RequestWords.{context-at}
 use Rattle.request_check.proofs.request.depth.Statement.{statement}
 use Rattle.request_check.proofs.request.depth.Tie as tie
 
-add-from : tie.Need-add-from
-add-from c = search needs
+add-depth : tie.Need-add-depth
+add-depth c = search needs
 
-u32-at-requires : tie.Need-u32-at-requires
-u32-at-requires c κs = search needs
-
-add-u32-at : tie.Need-add-u32-at
-add-u32-at c = search needs
-
-u32-at-requires-2 : tie.Need-u32-at-requires-2
-u32-at-requires-2 c κs = search needs
-
-add-u32-at-2 : tie.Need-add-u32-at-2
-add-u32-at-2 c = search needs
-
-u32-at-requires-3 : tie.Need-u32-at-requires-3
-u32-at-requires-3 c κs = search needs
-
-add-u32-at-3 : tie.Need-add-u32-at-3
-add-u32-at-3 c = search needs
-
-u32-at-requires-4 : tie.Need-u32-at-requires-4
-u32-at-requires-4 c κs = search needs
-
-used-levels-requires : tie.Need-used-levels-requires
-used-levels-requires c κs = search needs
+depth-requires : tie.Need-depth-requires
+depth-requires c κs = search needs
 
 returns : tie.Need-returns
-returns c =
-    let known = c .before .before .before .before .before in
-    let a = known .before .args in
-    let bytes : (i : ℕ) → Byte (getD (a .s .now) i 0) = λ i. known .shared-slice-known .given i .fits in
-    cc (depth-at (a .s .now) (a .at) bytes)
+returns c = let a = c .before .before .args in c .depth .ensures ∙ ap depthOf (sym (context-at (a .s .now) (a .at)))
 
 pub depth-spec : {M : Type 1} → statement M
-depth-spec =
-    tie.close
-    (tie.spec
-    add-from
-    u32-at-requires
-    add-u32-at
-    u32-at-requires-2
-    add-u32-at-2
-    u32-at-requires-3
-    add-u32-at-3
-    u32-at-requires-4
-    used-levels-requires
-    returns)
+depth-spec = tie.close (tie.spec add-depth depth-requires returns)

@@ -1,10 +1,10 @@
--- `session::run::run` meets its contract: the table is made by the definition, the requests are decided by the definition, and demand 3 is proved of both.
+-- `session::run::run` meets its contract: the table is made by the definition, the calls are made by the definition, and demand 3 is proved of both.
 -- Assumes nothing.
 use Prim.Native.Nat.{ℕ}
 use mathlib.Core.Path.{_≡_, ap}
 use native.Mathlib.Omega.{arith}
 use Rattle.engine.specs.Code.{answerOf}
-use Rattle.session.proofs.Kept.{ran-decided, ran-refused}
+use Rattle.session.proofs.Kept.{ran-called, ran-refused}
 use borrow.Author.Needs.{needs}
 use Rattle.session.proofs.run.run.Statement.{statement}
 use Rattle.session.proofs.run.run.Tie as tie
@@ -15,8 +15,8 @@ make-table-requires c κs = search needs
 enum-told : tie.Need-enum-told
 enum-told c = search needs
 
-decide-each-requires : tie.Need-decide-each-requires
-decide-each-requires c κs = search needs
+call-each-requires : tie.Need-call-each-requires
+call-each-requires c κs = search needs
 
 enum-told-2 : tie.Need-enum-told-2
 enum-told-2 c = search needs
@@ -35,9 +35,9 @@ returns c =
     let d = c .before .before .before .before in
     let t = d .before .before .before in
     let m = t .before .before .before .before in
-    let a = m .before .before .before .before .before .before .before .args in
-    ran-decided (a .policy .now) (a .table .now) _ _ _ _ (m .make-table .ensures) _ (ap answerOf (t .enum-told .given .1)) _ _ (d .decide-each .ensures .0)
-    (d .decide-each .ensures .1)
+    let a = m .before .before .before .before .before .before .before .before .args in
+    ran-called (a .policy .now) (a .table .now) _ _ _ _ (m .make-table .ensures) _ (ap answerOf (t .enum-told .given .1)) _ _ (d .call-each .ensures .0)
+    (d .call-each .ensures .1)
 
 same-length-3 : tie.Need-same-length-3
 same-length-3 c = search needs
@@ -45,7 +45,7 @@ same-length-3 c = search needs
 returns-2 : tie.Need-returns-2
 returns-2 c =
     let m = c .before .before .before .before in
-    let a = m .before .before .before .before .before .before .before .args in
+    let a = m .before .before .before .before .before .before .before .before .args in
     let e = ap answerOf (c .enum-told2 .given .1) in
     ran-refused (a .policy .now) (a .table .now) _ _ _ _ (m .make-table .ensures) (λ n x. let z : _≡_ {A = ℕ} 0 1 = cc (e, x) in omega arith)
 
@@ -55,7 +55,7 @@ same-length-4 c = search needs
 returns-3 : tie.Need-returns-3
 returns-3 c =
     let m = c .before .before .before .before in
-    let a = m .before .before .before .before .before .before .before .args in
+    let a = m .before .before .before .before .before .before .before .before .args in
     let e = ap answerOf (c .enum-told3 .given .1) in
     ran-refused (a .policy .now) (a .table .now) _ _ _ _ (m .make-table .ensures) (λ n x. let z : _≡_ {A = ℕ} 0 1 = cc (e, x) in omega arith)
 
@@ -65,7 +65,7 @@ run-spec =
     (tie.spec
     make-table-requires
     enum-told
-    decide-each-requires
+    call-each-requires
     enum-told-2
     enum-told-3
     same-length

@@ -1,15 +1,15 @@
 -- `table_check::bounds::are_plain` meets its contract.
 -- Assumes nothing.
-use Prim.Native.Nat.{ℕ, _-_, _*_, _<_, _≤_}
+use Prim.Native.Nat.{_-_, _*_, _≤_}
 use native.Mathlib.Numerals.{add-one}
 use native.Mathlib.Omega.{arith}
 use mathlib.Core.Path.{_≡_, refl, sym, _∙_}
-use mathlib.Core.Bool.{Bool, true, false}
+use mathlib.Core.Bool.{true}
 use borrow.Author.Tests.{not-true, not-false}
 use borrow.Author.Needs.{needs}
 use Rattle.words.specs.Lists.{allBelow}
 use Rattle.word_laws.proofs.Parts.{part-to, part-length}
-use Rattle.word_laws.proofs.Tests.{both, allBelow-at}
+use Rattle.word_laws.proofs.Tests.{both, allBelow-fails}
 use Rattle.format.specs.Policy.{policyOf}
 use Rattle.format_laws.proofs.AcceptedPolicy.{rules-few}
 use Rattle.table_check.specs.Shapes.{plain}
@@ -30,11 +30,6 @@ unfolding policyOf
 said c =
     let at = c .before .before .before in
     rw (part-to (at .before .before .args .policy .now) (512 * at .loop .i) 512) at (c .is-plain .ensures)
-
--- one that is not plain is enough
-fails : (n i : ℕ) (f : ℕ → Bool) → i < n → f i ≡ false → (b : Bool) → allBelow n f ≡ b → false ≡ b
-fails n i f h e true all = sym e ∙ allBelow-at n i f all h
-fails n i f h e false all = refl
 
 loop-holds : tie.Need-loop-holds Inv-loop μ-loop
 unfolding allBelow
@@ -69,7 +64,7 @@ returns : tie.Need-returns Inv-loop μ-loop
 returns c =
     let at = c .before .before .before .before in
     let a = at .before .before .args in
-    fails (a .rules) (at .loop .i) (λ j. plain (policyOf (a .policy .now) .rule j)) (omega arith) (sym (said (c .before)) ∙ not-true (c .before .is-plain .result) (c .if1 .taken)) _ refl
+    allBelow-fails (a .rules) (at .loop .i) (λ j. plain (policyOf (a .policy .now) .rule j)) (omega arith) (sym (said (c .before)) ∙ not-true (c .before .is-plain .result) (c .if1 .taken))
 
 add-i : tie.Need-add-i Inv-loop μ-loop
 add-i c = search needs

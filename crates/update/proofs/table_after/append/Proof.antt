@@ -30,14 +30,14 @@ some c = eqb-false (call c .args .gives .0) 0 (sym (c .before .is-empty .ensures
 
 place-request-requires : tie.Need-place-request-requires
 place-request-requires c κs =
-    let i = c .before in
+    let i = c .before .before in
     let s = call i in
     let h = s .pre .1 in
     (s .pre .0, record { whole = h .whole; most = h .most; few = omega (arith, h .few, recorded-one (s .args .gives .0) (some i)) })
 
-add-t10 : tie.Need-add-t10
-add-t10 c =
-    let i = c .before .before .before .before in
+add-t11 : tie.Need-add-t11
+add-t11 c =
+    let i = c .before .before .before .before .before in
     let s = call i in
     let h = s .pre .1 in
     record { fits = omega (arith, h .few, h .most) }
@@ -48,7 +48,7 @@ same-length c = search needs
 returns-2 : tie.Need-returns-2
 returns-2 c =
     let d = c .before .before in
-    let i = d .before .before in
+    let i = d .before .before .before in
     let s = call i in
     let a = s .args in
     let t = a .table .now in
@@ -61,4 +61,4 @@ returns-2 c =
     )
 
 pub append-spec : {M : Type 1} → statement M
-append-spec = tie.close (tie.spec is-empty-requires returns place-request-requires add-t10 same-length returns-2)
+append-spec = tie.close (tie.spec is-empty-requires returns place-request-requires add-t11 same-length returns-2)
