@@ -1,0 +1,4 @@
+pub mod Form
+pub mod Texts
+pub mod Run
+pub mod Code
