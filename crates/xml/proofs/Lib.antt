@@ -1,0 +1,5 @@
+pub mod FormExamples
+pub mod NameExamples
+pub mod Pieces
+pub mod ReadExamples
+pub mod WriteExamples

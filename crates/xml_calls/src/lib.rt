@@ -1,0 +1,1 @@
+// The two calls between rules and their text: definitions, and what they claim together.
