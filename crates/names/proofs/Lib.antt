@@ -1,0 +1,9 @@
+pub mod SameParts
+pub mod FirstHit
+pub mod Apart
+pub mod GoodEntries
+pub mod GoodLists
+pub mod GoodTexts
+pub mod Keys
+pub mod LookUps
+pub mod Numbers
