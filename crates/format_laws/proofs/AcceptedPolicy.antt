@@ -44,11 +44,11 @@ front f g (suc n) some order i h = go (f n) refl h (front f g n (λ k j. some k 
 -- ---- the blocks of an accepted policy
 
 module _ (s : List ℕ) (accepted : policyFault s ≡ none) where
-  block-accepted : (k : ℕ) → k < blocks s → policyBlockFault s k ≡ none
+  pub block-accepted : (k : ℕ) → k < blocks s → policyBlockFault s k ≡ none
   unfolding policyFault
   block-accepted k h = none-at (policyBlockFault s) 0 (blocks s) k (none-second _ _ accepted) (omega arith) (omega arith)
 
-  header-accepted : (k : ℕ) → k < blocks s → goodPolicyHeader s k ≡ true
+  pub header-accepted : (k : ℕ) → k < blocks s → goodPolicyHeader s k ≡ true
   unfolding policyBlockFault
   header-accepted k h = passes-unless _ _ (none-first _ _ (none-second _ _ (block-accepted k h)))
 
@@ -113,7 +113,7 @@ module _ (s : List ℕ) (accepted : policyFault s ≡ none) where
   pub rule-inside : (i : ℕ) → i < ruleCount s → blockBytes * i + blockBytes ≤ length s
   rule-inside i h = omega (arith, rules-few, policy-blocked .whole-blocks)
 
-  rule-accepted : (i : ℕ) → i < ruleCount s → ruleFault i (block s i) ≡ none
+  pub rule-accepted : (i : ℕ) → i < ruleCount s → ruleFault i (block s i) ≡ none
   unfolding policyBlockFault
   rule-accepted i h =
       rw (rule-block i h) at (none-second _ _ (none-second _ _ (block-accepted i (omega (arith, rules-few)))))
@@ -128,7 +128,7 @@ module _ (s : List ℕ) (accepted : policyFault s ≡ none) where
   unfolding goodRule ruleAt
   depth-few i h = leb-true (byteAt (block s i) 8) 4 (both-first _ _ (both-first _ _ (both-first _ _ (both-first _ _ (rule-good i h)))))
 
-  exclusions-few : (i : ℕ) → i < ruleCount s → ruleAt (block s i) .exclusions ≤ 8
+  pub exclusions-few : (i : ℕ) → i < ruleCount s → ruleAt (block s i) .exclusions ≤ 8
   unfolding goodRule
   exclusions-few i h = leb-true (ruleAt (block s i) .exclusions) 8 (go (leb (r .depth) 4) (leb 1 (r .exclusions)) (leb (r .exclusions) 8) levels (goodSteps (r .firstStep) (r .lastStep)) (rule-good i h))
     where
@@ -141,10 +141,15 @@ module _ (s : List ℕ) (accepted : policyFault s ≡ none) where
       go : (a b c d e : Bool) → a && b && c && d && e ≡ true → c ≡ true
       go a b c d e t = both-second (a && b) c (both-first (a && b && c) d (both-first (a && b && c && d) e t))
 
+  -- at each of the eight places: past a rule's number an exclusion is zero
+  pub exclusion-place : (i : ℕ) → i < ruleCount s → (e : ℕ) → e < 8 → goodExclusionAt (ruleAt (block s i)) e ≡ true
+  unfolding ruleFault
+  exclusion-place i h e k = passes-unless _ _ (none-at _ 0 8 e (none-second _ _ (rule-accepted i h)) (omega arith) (omega arith))
+
   pub exclusion-good : (i : ℕ) → i < ruleCount s → (e : ℕ) → e < ruleAt (block s i) .exclusions → goodExclusion (ruleAt (block s i) .exclusion e) ≡ true
-  unfolding ruleFault goodExclusionAt
+  unfolding goodExclusionAt
   exclusion-good i h e k =
-      rw (lt-ltb e (ruleAt (block s i) .exclusions) k) at (passes-unless _ _ (none-at _ 0 8 e (none-second _ _ (rule-accepted i h)) (omega arith) (omega (arith, exclusions-few i h))))
+      rw (lt-ltb e (ruleAt (block s i) .exclusions) k) at (exclusion-place i h e (omega (arith, exclusions-few i h)))
 
   -- so m is at least 2
   pub m-two : (i : ℕ) → i < ruleCount s → (e : ℕ) → e < ruleAt (block s i) .exclusions → 2 ≤ ruleAt (block s i) .exclusion e .m
