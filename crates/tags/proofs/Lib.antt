@@ -1,0 +1,10 @@
+pub mod Spans
+pub mod Pieces
+pub mod Squeezing
+pub mod Digits
+pub mod RowTable
+pub mod Compared
+pub mod RowLaws
+pub mod SpanPieces
+pub mod TagPieces
+pub mod Tags

@@ -1,0 +1,4 @@
+pub mod Cut
+pub mod Rows
+pub mod Code
+pub mod Numbers
