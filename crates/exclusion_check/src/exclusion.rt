@@ -108,7 +108,7 @@ fn good_size(b: &[u8], e: usize) -> bool
 }
 
 // An exclusion among the rule's number. Its members are looked at only where there are at most eight.
-fn good_exclusion(b: &[u8], e: usize) -> bool
+pub fn good_exclusion(b: &[u8], e: usize) -> bool
     requires { ⌜ (length (now b) ≡ blockBytes) × (e < mostExclusions) ⌝ }
     ensures { λ r. ⌜ r ≡ goodExclusion (exclusionAt (now (b .entry)) e) ⌝ }
 {

@@ -44,6 +44,13 @@ impl Privilege {
         }
     }
 
+    // Both numbers are from 1.
+    pub fn full(self) -> bool
+        ensures { λ r. ⌜ r ≡ fullPrivilege (privilegeOf self) ⌝ }
+    {
+        (self.operation.0 != 0) & (self.target.0 != 0)
+    }
+
     // Both numbers are zero.
     pub fn blank(self) -> bool
         ensures { λ r. ⌜ r ≡ blankPrivilege (privilegeOf self) ⌝ }
@@ -71,7 +78,7 @@ pub fn full(b: &[u8], at: usize) -> bool
     requires { ⌜ at + 3 < length (now b) ⌝ }
     ensures { λ r. ⌜ r ≡ fullPrivilege (privilegeAt (now (b .entry)) at) ⌝ }
 {
-    (operation_at(b, at).0 != 0) & (target_at(b, at).0 != 0)
+    Privilege::read(b, at).full()
 }
 
 // It has neither.

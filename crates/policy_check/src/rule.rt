@@ -112,7 +112,7 @@ fn good_steps(b: &[u8]) -> bool
 }
 
 // Depth, number of exclusions, levels and steps.
-fn good_rule(b: &[u8]) -> bool
+pub fn good_rule(b: &[u8]) -> bool
     requires { ⌜ length (now b) ≡ blockBytes ⌝ }
     ensures { λ r. ⌜ r ≡ goodRule (ruleAt (now (b .entry))) ⌝ }
 {

@@ -25,7 +25,7 @@ use fields::tables::record_start;
 // ---- bytes
 
 // Copies n words of another slice.
-fn copy_words(s: &mut [u8], at: usize, from: &[u8], n: usize)
+pub fn copy_words(s: &mut [u8], at: usize, from: &[u8], n: usize)
     requires { ⌜ (at + 4 * n ≤ length (now s)) × (4 * n ≤ length (now from)) ⌝ }
     ensures { λ r. ⌜ now (s .exit) ≡ over (now (s .entry)) at (4 * n) (take (4 * n) (now (from .entry))) ⌝ }
 {

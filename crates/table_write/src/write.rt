@@ -47,7 +47,7 @@ fn put_numbers(block: &mut [u8], total: usize, k: usize, count: usize)
 }
 
 // Zeros n bytes.
-fn zero_fill(s: &mut [u8], at: usize, n: usize)
+pub fn zero_fill(s: &mut [u8], at: usize, n: usize)
     requires { ⌜ at + n ≤ length (now s) ⌝ }
     ensures { λ r. ⌜ now (s .exit) ≡ over (now (s .entry)) at n (zeros n) ⌝ }
 {
@@ -77,7 +77,7 @@ fn put_header(block: &mut [u8], stamp: Sum, total: usize, k: usize, count: usize
 }
 
 // A block's check, over the words before it.
-fn put_check(block: &mut [u8])
+pub fn put_check(block: &mut [u8])
     requires { ⌜ length (now block) ≡ blockBytes ⌝ }
     ensures { λ r. ⌜ now (block .exit) ≡ sealed (take checkAt (now (block .entry))) ⌝ }
 {

@@ -4,14 +4,14 @@ use borrow.Author.Needs.{needs}
 use Rattle.fields.proofs.privilege.full.Statement.{statement}
 use Rattle.fields.proofs.privilege.full.Tie as tie
 
-operation-at-requires : tie.Need-operation-at-requires
-operation-at-requires c κs = search needs
+read-requires : tie.Need-read-requires
+read-requires c κs = search needs
 
-target-at-requires : tie.Need-target-at-requires
-target-at-requires c κs = search needs
+full-requires : tie.Need-full-requires
+full-requires c κs = search needs
 
 returns : tie.Need-returns
 returns c = cc
 
 pub full-spec : {M : Type 1} → statement M
-full-spec = tie.close (tie.spec operation-at-requires target-at-requires returns)
+full-spec = tie.close (tie.spec read-requires full-requires returns)

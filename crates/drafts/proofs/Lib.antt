@@ -1,0 +1,10 @@
+pub mod Numbers
+pub mod Zeroed
+pub mod Rows
+pub mod Elements
+pub mod Counted
+pub mod Fields
+pub mod ExclusionBlock
+pub mod GoodExclusion
+pub mod DraftBlock
+pub mod GoodRule
