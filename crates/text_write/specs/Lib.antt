@@ -1,0 +1,5 @@
+pub mod Words
+pub mod Laid
+pub mod Lost
+pub mod Pieces
+pub mod Wrote
