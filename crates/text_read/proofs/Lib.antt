@@ -1,0 +1,17 @@
+pub mod LookLaws
+pub mod LevelMarks
+pub mod LevelLaws
+pub mod LevelPieces
+pub mod LevelTurns
+pub mod TurnLooks
+pub mod StandsNow
+pub mod StandsKept
+pub mod TurnTags
+pub mod TurnSet
+pub mod TurnRule
+pub mod TurnsKinds
+pub mod TurnsPermissions
+pub mod TurnsRun
+pub mod TurnsText
+pub mod WholeFault
+pub mod WholeImage
