@@ -18,7 +18,7 @@ use Rattle.xml.specs.Tags.{ended, parted, tagsIn, Tag, startSet, endSet,
 use Rattle.xml.specs.Tags.{privilege as member, tagOf}
 use Rattle.xml.specs.Blocks.{rulesImage}
 use Rattle.xml.specs.Read.{decimal, roleFault, privilegeFault, levelTexts, levelOf, levelFault, firstOf, Reading, newMembers, newDraft, nothingRead}
-use Rattle.xml.specs.Read.{goodSet, tagFault, tagsFault, afterTags}
+use Rattle.xml.specs.Read.{goodSet, tagFault, tagsFault, afterTags, goodTags}
 use Rattle.xml.proofs.Pieces.{policies, opened, said, entry, list, level, privilege, step, unset, roles, privileges, rule, body, permissions, plainRule}
 
 -- ---- tags
@@ -254,3 +254,8 @@ pub image-of-rules :
     ≡ (sealed (body 1 0 3 fullBytes) ++ permissions 1 3 1 ++ permissions 2 3 2) ∷ (permissions 0 2 1 ++ permissions 1 2 2) ∷ []
 unfolding opened policies
 image-of-rules = refl
+
+-- "going through the text": tags behind the first byte that is not of the form say nothing
+pub tags-before-41 : goodTags (said "<MSoDPolicySet>a</MSoDPolicySet>") ≡ startSet ∷ []
+unfolding opened
+tags-before-41 = refl
