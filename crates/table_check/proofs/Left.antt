@@ -7,7 +7,7 @@ use mathlib.Core.Bool.{Bool, true, false}
 use lib.Bits.{bitAnd, and-le-l, and-le-r}
 use lib.Count.{trailingZeros}
 use Rattle.word_laws.proofs.Lowest.{lowest, none-set, lowest-fails, lowest-more}
-use Rattle.table_check.specs.Shapes.{marksPass}
+use Rattle.rule_tests.specs.Shapes.{marksPass}
 
 module _ (test : ℕ → Bool) (marks : ℕ) where
   -- a rest of the marks is left, and all pass exactly if these do

@@ -1,9 +1,5 @@
-pub mod Bounded
-pub mod Fitting
-pub mod GoodLevels
 pub mod Here
 pub mod Left
-pub mod Made
 pub mod Marked
 pub mod TableBlock
 pub mod Within

@@ -17,11 +17,11 @@ use Rattle.format.specs.Fits.{fits}
 use Rattle.format.specs.Policy.{Policy}
 use Rattle.format.specs.Table.{goodMarks, goodRecord}
 use Rattle.format.specs.Records.{recordFrom}
-use Rattle.table_check.specs.Shapes.{paired, shapeFits, marksWithin, marksPass}
-use Rattle.table_check.specs.Bounds.{boundsFit, Tests}
-use Rattle.table_check.proofs.GoodLevels.{levelWord}
-use Rattle.table_check.proofs.Fitting.{shaped}
-use Rattle.table_check.proofs.Bounded.{bounded}
+use Rattle.rule_tests.specs.Shapes.{paired, shapeFits, marksWithin, marksPass}
+use Rattle.rule_tests.specs.Bounds.{boundsFit, Tests}
+use Rattle.rule_tests.proofs.GoodLevels.{levelWord}
+use Rattle.rule_tests.proofs.Fitting.{shaped}
+use Rattle.rule_tests.proofs.Bounded.{bounded}
 
 module _ (p : Policy) (rules : ℕ) (count : rules ≡ p .rules) (s : List ℕ) (at : ℕ) where
   abbrev m : ℕ

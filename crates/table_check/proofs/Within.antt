@@ -13,7 +13,7 @@ use Rattle.words.specs.Bytes.{bit, bits}
 use Rattle.word_laws.proofs.Bits.{bits-below, bit-bits, bit-beyond}
 use Rattle.word_laws.proofs.BitLaws.{bits-of, same-bits}
 use Rattle.word_laws.proofs.Tests.{allBelow-true, allBelow-at}
-use Rattle.table_check.specs.Shapes.{marksWithin}
+use Rattle.rule_tests.specs.Shapes.{marksWithin}
 
 module _ (rules marks : ℕ) where
   -- marks that are all below the number of rules are for rules

@@ -1,4 +1,2 @@
-pub mod bounds;
 pub mod record;
-pub mod shapes;
 pub mod tables;

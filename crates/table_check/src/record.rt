@@ -9,12 +9,8 @@ ghost use Rattle.format.specs.Policy.{Policy};
 ghost use Rattle.format.specs.Request.{goodRequest};
 ghost use Rattle.format.specs.Table.{goodMarks, goodRecord};
 ghost use Rattle.format.specs.Records.{recordFrom};
-ghost use Rattle.table_check.specs.Shapes.{shapeFits, marksWithin, marksPass};
-ghost use Rattle.table_check.specs.Bounds.{mostBounds, boundsFit, Tests};
-use crate::bounds::BOUNDS;
-use crate::bounds::bounds_fit;
-use crate::shapes::SHAPES;
-use crate::shapes::shape_fits;
+ghost use Rattle.rule_tests.specs.Shapes.{shapeFits, marksWithin, marksPass};
+ghost use Rattle.rule_tests.specs.Bounds.{mostBounds, boundsFit, Tests};
 use fields::field::u32_at;
 use fields::layout::CONTEXT_AT;
 use fields::layout::CONTEXT_LEVEL_BYTES;
@@ -22,6 +18,10 @@ use fields::layout::MOST_RULES;
 use fields::request::marks;
 use fields::sets::RuleSet;
 use request_check::request::good_request;
+use rule_tests::bounds::BOUNDS;
+use rule_tests::bounds::bounds_fit;
+use rule_tests::shapes::SHAPES;
+use rule_tests::shapes::shape_fits;
 
 // Where the third level of a request's context stands.
 const THIRD_LEVEL_AT: usize = CONTEXT_AT + 2 * CONTEXT_LEVEL_BYTES;

@@ -1,4 +1,4 @@
--- `table_check::record::good_marks` meets its contract.
+-- `crate::record::good_marks` meets its contract.
 -- Assumes nothing.
 use Prim.Native.Nat.{ℕ, _+_}
 use native.Mathlib.Omega.{arith}
@@ -9,8 +9,8 @@ use borrow.Author.Tests.{not-true, not-false}
 use borrow.Author.Needs.{needs}
 use Rattle.words.specs.Bytes.{u32At}
 use Rattle.word_laws.proofs.Bytes.{Byte}
-use Rattle.table_check.specs.Shapes.{shapeFits, marksWithin}
-use Rattle.table_check.specs.Bounds.{boundsFit}
+use Rattle.rule_tests.specs.Shapes.{shapeFits, marksWithin}
+use Rattle.rule_tests.specs.Bounds.{boundsFit}
 use Rattle.table_check.proofs.Marked.{marks-outside, levelsAt, paired-levels, pass-as, by-shapes, by-bounds}
 use Rattle.table_check.proofs.record.good_marks.Statement.{statement}
 use Rattle.table_check.proofs.record.good_marks.Tie as tie

@@ -1,4 +1,4 @@
--- `table_check::record::good_record` meets its contract.
+-- `crate::record::good_record` meets its contract.
 -- Assumes nothing.
 use mathlib.Core.Path.{sym, _∙_}
 use borrow.Author.Needs.{needs}

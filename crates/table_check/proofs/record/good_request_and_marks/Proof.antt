@@ -1,4 +1,4 @@
--- `table_check::record::good_request_and_marks` meets its contract.
+-- `crate::record::good_request_and_marks` meets its contract.
 -- Assumes nothing.
 use mathlib.Core.Path.{sym, ap, _∙_}
 use mathlib.Core.Bool.{Bool, _&&_}

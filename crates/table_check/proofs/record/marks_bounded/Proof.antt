@@ -1,4 +1,4 @@
--- `table_check::record::marks_bounded` meets its contract.
+-- `crate::record::marks_bounded` meets its contract.
 -- Assumes nothing.
 use Prim.Native.Nat.{ℕ}
 use native.Mathlib.Omega.{arith}
@@ -6,7 +6,7 @@ use mathlib.Core.Path.{refl, sym, _∙_}
 use mathlib.Core.Bool.{Bool}
 use borrow.Author.Tests.{not-true, not-false}
 use borrow.Author.Needs.{needs}
-use Rattle.table_check.specs.Bounds.{boundsFit}
+use Rattle.rule_tests.specs.Bounds.{boundsFit}
 use Rattle.table_check.proofs.Left.{Left, passes, fails, more, place, less}
 use Rattle.table_check.proofs.record.marks_bounded.Statement.{statement}
 use Rattle.table_check.proofs.record.marks_bounded.Tie as tie

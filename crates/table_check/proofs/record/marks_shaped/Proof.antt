@@ -1,4 +1,4 @@
--- `table_check::record::marks_shaped` meets its contract.
+-- `crate::record::marks_shaped` meets its contract.
 -- Assumes nothing.
 use Prim.Native.Nat.{ℕ}
 use native.Mathlib.Omega.{arith}
@@ -6,7 +6,7 @@ use mathlib.Core.Path.{refl, sym, _∙_}
 use mathlib.Core.Bool.{Bool}
 use borrow.Author.Tests.{not-true, not-false}
 use borrow.Author.Needs.{needs}
-use Rattle.table_check.specs.Shapes.{shapeFits}
+use Rattle.rule_tests.specs.Shapes.{shapeFits}
 use Rattle.table_check.proofs.Left.{Left, passes, fails, more, place, less}
 use Rattle.table_check.proofs.record.marks_shaped.Statement.{statement}
 use Rattle.table_check.proofs.record.marks_shaped.Tie as tie

@@ -1,4 +1,4 @@
--- `table_check::record::marks_within` meets its contract.
+-- `crate::record::marks_within` meets its contract.
 -- Assumes nothing.
 use Rattle.table_check.proofs.Within.{within-is}
 use lib.Count.{leading-le}

@@ -15,7 +15,7 @@ use Rattle.format.specs.Policy.{Policy}
 use Rattle.format.specs.Table.{tableBlockFault}
 use Rattle.format.specs.Code.{faultOf}
 use Rattle.table_check.specs.CheckParts.{shortBefore, tableFaultIn}
-use Rattle.table_check.specs.Bounds.{Tests}
+use Rattle.rule_tests.specs.Bounds.{Tests}
 use Rattle.table_check.proofs.TableBlock.{fault-of-block, short-more}
 use Rattle.table_check.proofs.tables.blocks_fault.Statement.{statement}
 use Rattle.table_check.proofs.tables.blocks_fault.Tie as tie

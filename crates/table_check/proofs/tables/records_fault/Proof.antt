@@ -11,7 +11,7 @@ use Rattle.format.specs.Answer.{refusal}
 use Rattle.format.specs.Table.{count, recordAt, goodRecord}
 use Rattle.format.specs.Policy.{Policy}
 use Rattle.table_check.specs.CheckParts.{recordFaultAt, recordsFault}
-use Rattle.table_check.specs.Bounds.{Tests}
+use Rattle.rule_tests.specs.Bounds.{Tests}
 use Rattle.table_check.proofs.Here.{record-from}
 use Rattle.table_check.proofs.tables.records_fault.Statement.{statement}
 use Rattle.table_check.proofs.tables.records_fault.Tie as tie

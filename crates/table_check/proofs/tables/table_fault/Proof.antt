@@ -15,7 +15,7 @@ use Rattle.format.specs.Block.{goodLength}
 use Rattle.format.specs.Policy.{policyOf}
 use Rattle.format.specs.Table.{tableLengthFault, tableFault}
 use Rattle.format_laws.proofs.Accepted.{blocked}
-use Rattle.table_check.specs.Shapes.{plain}
+use Rattle.rule_tests.specs.Shapes.{plain}
 use Rattle.table_check.proofs.tables.table_fault.Statement.{statement}
 use Rattle.table_check.proofs.tables.table_fault.Tie as tie
 

@@ -1,0 +1,4 @@
+pub mod Bounded
+pub mod Fitting
+pub mod GoodLevels
+pub mod Made
