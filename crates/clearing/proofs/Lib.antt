@@ -1,4 +1,3 @@
 pub mod Left
 pub mod After
 pub mod Settled
-pub mod Closed

@@ -22,7 +22,7 @@ use Rattle.format_laws.proofs.Altered.{blocks-none}
 use Rattle.judge.specs.Close.{closed, closedOut, closeFault, close}
 use Rattle.judge.specs.Written.{closedBlocks}
 use Rattle.clearing.proofs.Left.{length-here}
-use Rattle.clearing.proofs.Closed.{closed-split}
+use Rattle.closed_records.proofs.Closed.{closed-split}
 use Rattle.update.proofs.Standing.{Standing, written-here}
 use Rattle.engine.specs.Code.{outcome}
 use Rattle.engine.proofs.Rows.{policy-row, table-row, next-row, refused, passed, counted, first-length}

@@ -11,7 +11,7 @@ ghost use Rattle.judge.specs.Close.{closed};
 ghost use Rattle.fields.specs.Code.{HasRoom};
 use crate::table_after::Written;
 use crate::table_after::write_settled;
-use clearing::closing::close_records;
+use closed_records::closing::close_records;
 use sums::sum::Sum;
 
 // Writes the table after a closing.

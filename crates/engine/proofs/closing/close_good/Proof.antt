@@ -7,7 +7,7 @@ use Rattle.sums.specs.Code.{sumsOf}
 use Rattle.table_check.proofs.Here.{accepted-small}
 use Rattle.table_write.proofs.SliceBytes.{slice-bytes}
 use Rattle.clearing.proofs.Left.{length-here}
-use Rattle.clearing.proofs.Closed.{closed-split}
+use Rattle.closed_records.proofs.Closed.{closed-split}
 use Rattle.update.proofs.Standing.{Standing, standing}
 use Rattle.engine.proofs.Closed.{context-length, closes}
 use borrow.Author.Needs.{needs}

@@ -7,7 +7,7 @@ use Rattle.fields.specs.Code.{noBlock}
 use Rattle.table_write.proofs.SliceBytes.{slice-bytes}
 use Rattle.table_write.proofs.TableWritten.{image-but}
 use Rattle.clearing.proofs.Left.{length-here}
-use Rattle.clearing.proofs.Closed.{closed-split}
+use Rattle.closed_records.proofs.Closed.{closed-split}
 use Rattle.update.proofs.AfterLaws.{written-held}
 use borrow.Author.Needs.{needs}
 use Rattle.update.proofs.closing.write_closed.Statement.{statement}

@@ -14,9 +14,9 @@ use Rattle.word_laws.proofs.Tests.{both, allBelow-fails}
 use Rattle.format.specs.Layout.{mostLevels, requestBytes}
 use Rattle.format.specs.Request.{contextOf}
 use Rattle.format.specs.Context.{sameLevel, begins}
-use Rattle.clearing.proofs.Closed.{depth-most, level-same}
-use Rattle.clearing.proofs.closing.begins.Statement.{statement}
-use Rattle.clearing.proofs.closing.begins.Tie as tie
+use Rattle.closed_records.proofs.Closed.{depth-most, level-same}
+use Rattle.closed_records.proofs.closing.begins.Statement.{statement}
+use Rattle.closed_records.proofs.closing.begins.Tie as tie
 
 abbrev Inv-loop : tie.InvT-loop
 Inv-loop context levels s at i₀ i =

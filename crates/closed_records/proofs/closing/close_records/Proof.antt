@@ -11,12 +11,12 @@ use Rattle.format.specs.Context.{begins}
 use Rattle.format.specs.Records.{recordHere}
 use Rattle.judge.specs.Close.{closed}
 use Rattle.table_write.proofs.Placed.{room-placed}
 use Rattle.clearing.specs.Settling.{Settling}
-use Rattle.clearing.proofs.Closed.{closed-by-one, closed-none, closed-stay, still-named}
+use Rattle.closed_records.proofs.Closed.{closed-by-one, closed-none, closed-stay, still-named}
 use Rattle.clearing.proofs.Settled.{settle-start, settle-stay, settle-drop}
 use borrow.Author.Needs.{needs}
-use Rattle.clearing.proofs.closing.close_records.Statement.{statement}
-use Rattle.clearing.proofs.closing.close_records.Tie as tie
+use Rattle.closed_records.proofs.closing.close_records.Statement.{statement}
+use Rattle.closed_records.proofs.closing.close_records.Tie as tie
 
 abbrev Inv-loop : tie.InvT-loop
 Inv-loop context table₀ n levels i₀ settled₀ table i settled =

@@ -8,10 +8,10 @@ use mathlib.Core.Bool.{false}
 use mathlib.Core.List.{List}
 use Rattle.format.specs.Context.{begins}
 use Rattle.format.specs.Records.{recordFrom, recordHere}
-use Rattle.clearing.proofs.Closed.{named-more}
+use Rattle.closed_records.proofs.Closed.{named-more}
 use borrow.Author.Needs.{needs}
-use Rattle.clearing.proofs.closing.named_from.Statement.{statement}
-use Rattle.clearing.proofs.closing.named_from.Tie as tie
+use Rattle.closed_records.proofs.closing.named_from.Statement.{statement}
+use Rattle.closed_records.proofs.closing.named_from.Tie as tie
 
 abbrev Inv-loop : tie.InvT-loop
 Inv-loop context levels table from n i₀ i =
