@@ -68,12 +68,12 @@ module _ (text l second : List ℕ) (room : ℕ) (faultless : readFault text l s
       rw (t .1) (set-good l second room nothingRead (t .0) h)
 
   -- how many blocks there will be
-  N : ℕ
+  abbrev pub N : ℕ
   N = length (rulesRead text l) + permissions second
 
   -- the limits as numbers
-  in-limits : (length (rulesRead text l) ≤ mostRules) × (1 ≤ N) × (N ≤ policyBlocks) × (blockBytes * N ≤ room)
-  unfolding goodSet N
+  pub in-limits : (length (rulesRead text l) ≤ mostRules) × (1 ≤ N) × (N ≤ policyBlocks) × (blockBytes * N ≤ room)
+  unfolding goodSet
   in-limits =
       let f = four (leb (length (rulesRead text l)) mostRules) (leb 1 N) (leb N policyBlocks) (leb (blockBytes * N) room) limits in
       (leb-true _ _ (f .0), leb-true _ _ (f .1), leb-true _ _ (f .2), leb-true _ _ (f .3))
@@ -85,7 +85,7 @@ module _ (text l second : List ℕ) (room : ℕ) (faultless : readFault text l s
 
   -- and there is room for it
   pub reads-fit : length (readImage text l second) ≤ room
-  unfolding readImage N
+  unfolding readImage
   reads-fit = omega (arith, image-length (rulesRead text l) second second-accepted, in-limits .3)
 
   module _ (bytes : Every Byte l) where
@@ -98,7 +98,7 @@ module _ (text l second : List ℕ) (room : ℕ) (faultless : readFault text l s
 
     -- what is read is accepted
     pub reads-accepted : policyFault (readImage text l second) ≡ none
-    unfolding readImage N
+    unfolding readImage
     reads-accepted =
         image-accepted (rulesRead text l) second second-accepted proper (in-limits .0) (in-limits .1) (in-limits .2)
 

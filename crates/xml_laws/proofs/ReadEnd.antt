@@ -2,19 +2,17 @@
 -- Assumes nothing.
 use Prim.Native.Nat.{ℕ}
 use Prim.Native.String.{String}
-use native.Mathlib.Omega.{arith}
 use mathlib.Core.Path.{_≡_, refl, sym, ap, _∙_}
 use mathlib.Core.Bool.{Bool, true, false, not}
-use mathlib.Core.List.{List, [], _∷_, _++_, map, append-nil, append-assoc, map-append}
-use lib.ListN.{length}
+use mathlib.Core.List.{List, [], _∷_, _++_, map, append-assoc, map-append}
 use lib.Seq.{take-length}
 use lib.Dec.{eqb}
 use borrow.Author.Tests.{eqb-true}
 use Rattle.words.specs.Lists.{keep, sameList}
 use Rattle.word_laws.proofs.Keep.{keep-append}
-use Rattle.forms.specs.Form.{ascii, this, space, isOf, Form, blank, one, many, joined, bytes, lefts, isOfForm, reach}
+use Rattle.forms.specs.Form.{ascii, this, space, isOf, Form, blank, one, many, joined, bytes, isOfForm}
 use Rattle.forms.specs.Texts.{Of, no-byte, a-byte, no-more, one-more}
-use Rattle.forms.proofs.Laws.{hopeless-ends, reach-none, reach-took}
+use Rattle.forms.proofs.Laws.{reach-whole}
 use Rattle.forms.proofs.Texts.{Split, unjoin, is-of-form}
 use Rattle.xml.specs.Grammar.{_▸_, text, gap, element, policy, set}
 use Rattle.xml.specs.Tags.{onFirst, ended, parted, squeezed, tagsIn, Tag, endSet, rows, saying, tagOf}
@@ -174,12 +172,6 @@ end-tag : map tagOf (map (parted 34) (ended 62 setEnd)) ≡ endSet ∷ []
 unfolding ascii ended parted onFirst tagOf saying rows sameList
 end-tag = refl
 
--- a text of a form is good to its end
-pub whole-reach : (f : Form) (t : List ℕ) → isOfForm f t ≡ true → reach f t ≡ length t
-unfolding isOfForm
-whole-reach f t e =
-    ap (reach f) (sym (append-nil t)) ∙ reach-took f t [] (hopeless-ends (lefts f t) e) ∙ rw (reach-none (lefts f t)) (omega arith)
-
 -- the last tag of a set is its end tag
 pub last-tag : (t : List ℕ) → isOfForm set t ≡ true → (ts : List Tag) × (goodTags t ≡ ts ++ endSet ∷ [])
 unfolding goodTags tagsIn
@@ -188,7 +180,7 @@ last-tag t e =
     let p = pieces-behind (s .front) setEnd in
     let ps : List (List ℕ) = p .head ∷ p .tail in (
       map tagOf (map (parted 34) ps),
-      rw (whole-reach set t e, take-length t, s .ends, p .pieces)
+      rw (reach-whole set t e, take-length t, s .ends, p .pieces)
           (ap (map tagOf) (map-append (parted 34) ps (ended 62 setEnd))
           ∙ map-append tagOf (map (parted 34) ps) (map (parted 34) (ended 62 setEnd))
           ∙ ap (λ (a : List Tag). map tagOf (map (parted 34) ps) ++ a) end-tag),
