@@ -1,6 +1,6 @@
 -- The block of the rule that is being read: begun, with a step, one level or one exclusion more, and ended.
 -- Assumes nothing.
-use Prim.Native.Nat.{ℕ, _+_, _*_, _≤_, _<_}
+use Prim.Native.Nat.{ℕ, _+_, _*_, _≤_, _<_, min}
 use native.Mathlib.Omega.{arith}
 use mathlib.Core.Path.{_≡_, refl, ap}
 use mathlib.Core.List.{List, [], _∷_, _++_, flatten}
@@ -12,8 +12,7 @@ use Rattle.format.specs.Rule.{Level, Privilege, Exclusion}
 use Rattle.xml.specs.Blocks.{levelImage, privilegeImage, exclusionImage, ruleImage}
 use Rattle.xml.specs.Read.{levelFrom, newMembers, exclusionOf, Draft, newDraft, withFirst, withLast, withExclusion, ruleFrom}
 use Rattle.table_write.specs.Writing.{over}
-use Rattle.drafts.specs.Draft.{capped, draftBlock, ruleBlock}
-use Rattle.drafts.proofs.Numbers.{capped-few}
+use Rattle.drafts.specs.Draft.{draftBlock, ruleBlock}
 use Rattle.drafts.proofs.Elements.{row, row-full, row-more}
 use Rattle.drafts.proofs.Counted.{more-stored, more-counted}
 
@@ -56,19 +55,19 @@ module _ (ls : List Level) (d : Draft) (v : Level) where
   pub level-stored : length ls < 4 → over (draftBlock ls d) (16 + 8 * length ls) 8 (levelImage v) ≡ draftBlock (ls ++ (v ∷ [])) d
   unfolding draftBlock levelImage privilegeImage flatten tab
   level-stored h =
-      row-more levelImage (levelFrom 0 0 0) 8 (λ x. refl) (head (zeros 4) 0 d (capped 9 (length (d .exclusions)))) (behind d) 16 4 refl ls (length ls) h v refl
+      row-more levelImage (levelFrom 0 0 0) 8 (λ x. refl) (head (zeros 4) 0 d (min 9 (length (d .exclusions)))) (behind d) 16 4 refl ls (length ls) h v refl
 
   -- where there is none the block stays
   pub level-left : 4 ≤ length ls → draftBlock ls d ≡ draftBlock (ls ++ (v ∷ [])) d
   unfolding draftBlock
   level-left h =
       ap (λ (l : List ℕ).
-      head (zeros 4) 0 d (capped 9 (length (d .exclusions))) ++ l ++ privilegeImage (d .first .privilege) ++ privilegeImage (d .last .privilege)
+      head (zeros 4) 0 d (min 9 (length (d .exclusions))) ++ l ++ privilegeImage (d .first .privilege) ++ privilegeImage (d .last .privilege)
       ++ exclusions (d .exclusions) ++ zeros 168)
       (row-full levelImage (levelFrom 0 0 0) ls v 4 h)
 
 -- one exclusion more in a block b, whose count was read and v written for it
-module _ (ls : List Level) (d : Draft) (x : Exclusion) (b : List ℕ) (is : b ≡ draftBlock ls d) (v : ℕ) (wrote : v ≡ capped 9 (getD b 9 0 + 1)) where
+module _ (ls : List Level) (d : Draft) (x : Exclusion) (b : List ℕ) (is : b ≡ draftBlock ls d) (v : ℕ) (wrote : v ≡ min 9 (getD b 9 0 + 1)) where
   -- stored where there is a place
   pub exclusion-stored : (n : ℕ) {b′ : List ℕ} → n ≡ getD b 9 0 → n < 8 → b′ ≡ over (set b 9 v) (56 + 36 * n) 36 (exclusionImage x)
       → b′ ≡ draftBlock ls (withExclusion d x)
@@ -88,4 +87,4 @@ module _ (ls : List Level) (d : Draft) (x : Exclusion) (b : List ℕ) (is : b �
 pub ended : (ls : List Level) (d : Draft) → length (d .exclusions) ≤ 8
     → set (sets (draftBlock ls d) 0 (bytes4 1)) 8 (length ls) ≡ ruleBlock (ruleFrom ls d)
 unfolding draftBlock ruleBlock ruleImage ruleFrom levelImage privilegeImage exclusionImage flatten tab
-ended ls d h = ap (λ n. front (bytes4 1) (length ls) ls d n ++ exclusions (d .exclusions) ++ zeros 168) (capped-few 9 (length (d .exclusions)) (omega arith))
+ended ls d h = ap (λ n. front (bytes4 1) (length ls) ls d n ++ exclusions (d .exclusions) ++ zeros 168) (omega arith)

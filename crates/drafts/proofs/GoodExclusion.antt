@@ -1,6 +1,6 @@
 -- The block of the exclusion that is being read is good where the exclusion is, and then its bytes are the exclusion's image.
 -- Assumes nothing.
-use Prim.Native.Nat.{ℕ, _+_, _*_, _≤_, _<_}
+use Prim.Native.Nat.{ℕ, _+_, _*_, _≤_, _<_, min}
 use native.Mathlib.Omega.{arith}
 use mathlib.Core.Path.{_≡_, refl, ap, _∙_}
 use mathlib.Core.Bool.{Bool, true, false, not, _&&_, _||_}
@@ -16,8 +16,7 @@ use Rattle.exclusion_check.specs.Parts.{goodSize, goodMembers, goodRole}
 use Rattle.exclusion_check.proofs.Sized.{few-members}
 use Rattle.xml.specs.Blocks.{privilegeImage, exclusionImage}
 use Rattle.xml.specs.Read.{blankPrivilege, Members, exclusionOf}
-use Rattle.drafts.specs.Draft.{capped, cappedExclusion, exclusionBlock, MembersFit}
-use Rattle.drafts.proofs.Numbers.{capped-few, capped-below}
+use Rattle.drafts.specs.Draft.{cappedExclusion, exclusionBlock, MembersFit}
 use Rattle.drafts.proofs.Elements.{row-read}
 use Rattle.drafts.proofs.Fields.{privilege-read}
 use Rattle.drafts.proofs.ExclusionBlock.{front, shape}
@@ -68,7 +67,10 @@ module _ (s : Members) where
   -- numbers within the limits are not capped
   uncapped : s .m ≤ 8 → length (s .members) ≤ 8 → cappedExclusion s ≡ exclusionOf s
   unfolding cappedExclusion exclusionOf
-  uncapped small few = rw (capped-few 255 (s .m) (omega arith), capped-few 9 (length (s .members)) (omega arith))
+  uncapped small few =
+      let m : min 255 (s .m) ≡ s .m = omega arith in
+      let n : min 9 (length (s .members)) ≡ length (s .members) = omega arith in
+      rw (m, n)
 
   -- a member is read as it is
   member-read : MembersFit s → (i : ℕ) → i < 8 → exclusionAt (exclusionBlock s) 0 .member i ≡ getD (s .members) i blankPrivilege
@@ -76,7 +78,7 @@ module _ (s : Members) where
   member-read fits i h =
       privilege-read (exclusionBlock s) (60 + 4 * i) (getD (s .members) i blankPrivilege)
       (rw shape
-      (row-read privilegeImage blankPrivilege 4 (λ x. refl) (front (s .kind) (capped 255 (s .m)) (capped 9 (length (s .members)))) (zeros 420) 60 8 refl
+      (row-read privilegeImage blankPrivilege 4 (λ x. refl) (front (s .kind) (min 255 (s .m)) (min 9 (length (s .members)))) (zeros 420) 60 8 refl
       (s .members) i h))
       (fits .1 i)
 
@@ -84,8 +86,8 @@ module _ (s : Members) where
   within : MembersFit s → s .m ≤ 8 → length (s .members) ≤ 8 → goodExclusion (exclusionAt (exclusionBlock s) 0) ≡ goodExclusion (exclusionOf s)
   unfolding exclusionBlock cappedExclusion exclusionImage
   within fits small few =
-      by-eight (s .kind) (capped 255 (s .m)) (capped 9 (length (s .members))) 0 (exclusionAt (exclusionBlock s) 0 .member)
-      (λ i. getD (s .members) i blankPrivilege) (omega (arith, capped-few 9 (length (s .members)) (omega arith))) (member-read fits)
+      by-eight (s .kind) (min 255 (s .m)) (min 9 (length (s .members))) 0 (exclusionAt (exclusionBlock s) 0 .member)
+      (λ i. getD (s .members) i blankPrivilege) (omega arith) (member-read fits)
       ∙ ap goodExclusion (uncapped small few)
 
   -- the limits of the block are those of the exclusion
@@ -93,7 +95,7 @@ module _ (s : Members) where
   unfolding exclusionBlock cappedExclusion exclusionImage
   block-limits h =
       let l = good-limits (exclusionAt (exclusionBlock s) 0) h in
-      (capped-below 255 (s .m) 8 (omega arith) (omega (arith, l .0, l .1)), capped-below 9 (length (s .members)) 8 (omega arith) (l .1))
+      (omega (arith, l .0, l .1), omega (arith, l .1))
 
   -- and those of the exclusion are its own
   own-limits : goodExclusion (exclusionOf s) ≡ true → (s .m ≤ 8) × (length (s .members) ≤ 8)

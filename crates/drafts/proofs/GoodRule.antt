@@ -1,6 +1,6 @@
 -- The block of a rule that ends is good where the rule is, and then it is the rule's.
 -- Assumes nothing.
-use Prim.Native.Nat.{ℕ, _≤_, _<_}
+use Prim.Native.Nat.{ℕ, _≤_, _<_, min}
 use native.Mathlib.Decide.{decLt}
 use native.Mathlib.Omega.{arith}
 use mathlib.Core.Path.{_≡_, refl}
@@ -17,8 +17,7 @@ use Rattle.format.specs.Rule.{Level, Step, Exclusion, Rule, levelAt, privilegeA
 use Rattle.policy_check.specs.Parts.{goodLevels, goodLevelOf}
 use Rattle.xml.specs.Blocks.{levelImage, privilegeImage}
 use Rattle.xml.specs.Read.{levelFrom, newMembers, exclusionOf, Draft, ruleFrom}
-use Rattle.drafts.specs.Draft.{capped, draftBlock, ruleBlock, LevelFits, StepFits}
-use Rattle.drafts.proofs.Numbers.{capped-few, capped-many}
+use Rattle.drafts.specs.Draft.{draftBlock, ruleBlock, LevelFits, StepFits}
 use Rattle.drafts.proofs.Elements.{row-read}
 use Rattle.drafts.proofs.Fields.{step-read, level-read}
 use Rattle.drafts.proofs.DraftBlock.{head, behind, ended}
@@ -26,12 +25,12 @@ use Rattle.drafts.proofs.DraftBlock.{head, behind, ended}
 -- ---- what a good rule says of its numbers
 
 -- a capped count breaks the limits just as the count does
-count-limits : (n : ℕ) → leb 1 (capped 9 n) && leb (capped 9 n) 8 ≡ leb 1 n && leb n 8
+count-limits : (n : ℕ) → leb 1 (min 9 n) && leb (min 9 n) 8 ≡ leb 1 n && leb n 8
 count-limits n = go (decLt 9 n)
   where
-    go : Dec (9 < n) → leb 1 (capped 9 n) && leb (capped 9 n) 8 ≡ leb 1 n && leb n 8
-    go (yes l) = rw (capped-many 9 n (omega arith), le-leb 1 n (omega arith), lt-leb n 8 (omega arith))
-    go (no g) = rw (capped-few 9 n (omega arith))
+    go : Dec (9 < n) → leb 1 (min 9 n) && leb (min 9 n) 8 ≡ leb 1 n && leb n 8
+    go (yes l) = let e : min 9 n ≡ 9 = omega arith in rw (e, le-leb 1 n (omega arith), lt-leb n 8 (omega arith))
+    go (no g) = let e : min 9 n ≡ n = omega arith in rw e
 
 -- there are at most eight exclusions
 few-exclusions : (r : Rule) → goodRule r ≡ true → r .exclusions ≤ 8
@@ -50,12 +49,12 @@ too-deep ls d h = rw (lt-leb (length ls) 4 h)
 -- rules with the same levels and steps, of which one has its count capped, are good together
 rule-same :
     (depth n : ℕ) (f g : ℕ → Level) (a b a′ b′ : Step) (x y : ℕ → Exclusion) → ((i : ℕ) → i < 4 → f i ≡ g i) → a ≡ a′ → b ≡ b′
-    → goodRule (record { depth = depth; exclusions = capped 9 n; level = f; firstStep = a; lastStep = b; exclusion = x })
+    → goodRule (record { depth = depth; exclusions = min 9 n; level = f; firstStep = a; lastStep = b; exclusion = x })
     ≡ goodRule (record { depth = depth; exclusions = n; level = g; firstStep = a′; lastStep = b′; exclusion = y })
 unfolding goodRule
 rule-same depth n f g a b a′ b′ x y same ea eb =
     rw (ea, eb, allBelow-same 4 (goodLevelOf depth f) (goodLevelOf depth g) (λ i h. rw (same i h)))
-    (go (leb depth 4) (leb 1 (capped 9 n)) (leb (capped 9 n) 8) (leb 1 n) (leb n 8) (allBelow 4 (goodLevelOf depth g)) (goodSteps a′ b′) (count-limits n))
+    (go (leb depth 4) (leb 1 (min 9 n)) (leb (min 9 n) 8) (leb 1 n) (leb n 8) (allBelow 4 (goodLevelOf depth g)) (goodSteps a′ b′) (count-limits n))
   where
     go : (p q r q′ r′ u v : Bool) → q && r ≡ q′ && r′ → p && q && r && u && v ≡ p && q′ && r′ && u && v
     go true q r q′ r′ u v e = rw e
@@ -73,7 +72,7 @@ module _ (ls : List Level) (d : Draft) where
   unfolding draftBlock levelImage privilegeImage flatten tab
   level-at i h fits =
       level-read closed i (getD ls i (levelFrom 0 0 0))
-      (row-read levelImage (levelFrom 0 0 0) 8 (λ x. refl) (head (bytes4 1) (length ls) d (capped 9 (length (d .exclusions)))) (behind d) 16 4 refl ls i h)
+      (row-read levelImage (levelFrom 0 0 0) 8 (λ x. refl) (head (bytes4 1) (length ls) d (min 9 (length (d .exclusions)))) (behind d) 16 4 refl ls i h)
       fits
 
   -- it is good where the rule is

@@ -1,10 +1,8 @@
 -- What is being read, as bytes: an exclusion and a rule, each in a block of its own, so that the checks of a policy serve for reading too.
 -- Assumes nothing.
-use Prim.Native.Nat.{ℕ, _-_, _<_}
-use mathlib.Core.Bool.{cond}
+use Prim.Native.Nat.{ℕ, _-_, _<_, min}
 use mathlib.Core.List.{List, [], _∷_, _++_, flatten}
 use lib.ListN.{length, getD}
-use lib.Dec.{leb}
 use Rattle.words.specs.Lists.{tab}
 use Rattle.words.specs.Bytes.{zeros}
 use Rattle.format.specs.Layout.{blockBytes, depthAt, ruleSpareBytes, mostLevels, kindAt, exclusionBytes, mostExclusions, mostMembers, ruleTailAt}
@@ -12,11 +10,7 @@ use Rattle.format.specs.Rule.{Level, Privilege, Step, Exclusion, Rule}
 use Rattle.xml.specs.Blocks.{levelImage, privilegeImage, exclusionImage, ruleImage}
 use Rattle.xml.specs.Read.{blankPrivilege, levelFrom, Members, newMembers, exclusionOf, Draft}
 
--- n, or c if it is more: a count that a byte holds, above every limit if the number is
-abbrev pub capped : ℕ → ℕ → ℕ
-capped c n = cond (leb n c) n c
-
--- the highest m, and the highest number of members, of exclusions and of levels, that are told apart: each is above its limit
+-- the highest m, and the highest number of members and of exclusions, that are told apart: each fits a byte and is above its limit
 abbrev pub highestM : ℕ
 highestM = 255
 
@@ -30,8 +24,8 @@ unfoldable pub cappedExclusion : Members → Exclusion
 cappedExclusion x =
     record {
       kind = x .kind;
-      m = capped highestM (x .m);
-      n = capped highestCount (length (x .members));
+      m = min highestM (x .m);
+      n = min highestCount (length (x .members));
       pad = 0;
       member = λ i. getD (x .members) i blankPrivilege;
     }
@@ -46,7 +40,7 @@ exclusionBlock x = zeros kindAt ++ exclusionImage (cappedExclusion x) ++ zeros (
 unfoldable pub draftBlock : List Level → Draft → List ℕ
 draftBlock ls d =
     zeros depthAt
-    ++ (0 ∷ capped highestCount (length (d .exclusions)) ∷ d .first .flag ∷ d .last .flag ∷ [])
+    ++ (0 ∷ min highestCount (length (d .exclusions)) ∷ d .first .flag ∷ d .last .flag ∷ [])
     ++ zeros ruleSpareBytes
     ++ flatten (tab (λ i. levelImage (getD ls i (levelFrom 0 0 0))) 0 mostLevels)
     ++ privilegeImage (d .first .privilege)

@@ -8,8 +8,10 @@ use Rattle.xml.specs.Tags as said
 use Rattle.xml.specs.Tags.{squeezed}
 use Rattle.tags.specs.Cut.{span, until, past}
 use Rattle.tags.specs.declared.span.Span.{Span}
+use Rattle.tags.specs.declared.tag.Place.{Place}
+use Rattle.tags.specs.declared.tag.Place.the-variants.{First, Last, Member}
 use Rattle.tags.specs.declared.tag.Tag.{Tag}
-use Rattle.tags.specs.declared.tag.Tag.the-variants.{StartSet, EndSet, StartRule, EndRule, FirstStep, LastStep, StartExclusion, EndExclusion, Role, Privilege, Other}
+use Rattle.tags.specs.declared.tag.Tag.the-variants.{StartSet, EndSet, StartRule, EndRule, StartExclusion, EndExclusion, Role, Privilege, Other}
 
 -- the bytes of a value, without white space
 abbrev pub valueAt : List ℕ → Span → List ℕ
@@ -19,18 +21,22 @@ valueAt t s = squeezed (span t (s .from) (s .to))
 abbrev pub InText : List ℕ → Span → Type 0
 InText t s = (s .from ≤ s .to) × (s .to ≤ length t)
 
+-- what a tag with a privilege says
+abbrev pub privilegeAs : Place → List ℕ → List ℕ → said.Tag
+privilegeAs First o u = said.firstStep o u
+privilegeAs Last o u = said.lastStep o u
+privilegeAs Member o u = said.privilege o u
+
 -- what a tag says
 abbrev pub tagAt : List ℕ → Tag → said.Tag
 tagAt t StartSet = said.startSet
 tagAt t EndSet = said.endSet
 tagAt t (StartRule c) = said.startRule (valueAt t c)
 tagAt t EndRule = said.endRule
-tagAt t (FirstStep o u) = said.firstStep (valueAt t o) (valueAt t u)
-tagAt t (LastStep o u) = said.lastStep (valueAt t o) (valueAt t u)
 tagAt t (StartExclusion k d) = said.startExclusion k (valueAt t d)
 tagAt t EndExclusion = said.endExclusion
 tagAt t (Role v) = said.role (valueAt t v)
-tagAt t (Privilege o u) = said.privilege (valueAt t o) (valueAt t u)
+tagAt t (Privilege p o u) = privilegeAs p (valueAt t o) (valueAt t u)
 tagAt t Other = said.other
 
 -- its values lie in the text
@@ -39,12 +45,10 @@ TagIn t StartSet = Unit {0}
 TagIn t EndSet = Unit {0}
 TagIn t (StartRule c) = InText t c
 TagIn t EndRule = Unit {0}
-TagIn t (FirstStep o u) = InText t o × InText t u
-TagIn t (LastStep o u) = InText t o × InText t u
 TagIn t (StartExclusion k d) = InText t d
 TagIn t EndExclusion = Unit {0}
 TagIn t (Role v) = InText t v
-TagIn t (Privilege o u) = InText t o × InText t u
+TagIn t (Privilege p o u) = InText t o × InText t u
 TagIn t Other = Unit {0}
 
 -- the piece behind the c at a byte, up to the next c; empty at the end

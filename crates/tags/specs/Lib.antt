@@ -1,4 +1,3 @@
 pub mod Cut
 pub mod Rows
 pub mod Code
-pub mod Numbers

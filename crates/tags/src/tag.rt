@@ -13,17 +13,22 @@ use crate::cut::until;
 use crate::rows::row_at;
 use crate::span::Span;
 
+// What a privilege is there: a rule's first step, its last step, or a member of an exclusion.
+pub enum Place {
+    First,
+    Last,
+    Member,
+}
+
 pub enum Tag {
     StartSet,
     EndSet,
     StartRule(Span),
     EndRule,
-    FirstStep(Span, Span),
-    LastStep(Span, Span),
     StartExclusion(u8, Span),
     EndExclusion,
     Role(Span),
-    Privilege(Span, Span),
+    Privilege(Place, Span, Span),
     Other,
 }
 
@@ -37,18 +42,18 @@ fn said(row: usize, one: Span, two: Span) -> Tag
         1 => Tag::EndSet,
         2 => Tag::StartRule(one),
         3 => Tag::EndRule,
-        4 => Tag::FirstStep(one, two),
-        5 => Tag::FirstStep(two, one),
-        6 => Tag::LastStep(one, two),
-        7 => Tag::LastStep(two, one),
+        4 => Tag::Privilege(Place::First, one, two),
+        5 => Tag::Privilege(Place::First, two, one),
+        6 => Tag::Privilege(Place::Last, one, two),
+        7 => Tag::Privilege(Place::Last, two, one),
         8 => Tag::StartExclusion(1, one),
         9 => Tag::EndExclusion,
         10 => Tag::StartExclusion(2, one),
         11 => Tag::EndExclusion,
         12 => Tag::Role(two),
         13 => Tag::Role(one),
-        14 => Tag::Privilege(one, two),
-        15 => Tag::Privilege(two, one),
+        14 => Tag::Privilege(Place::Member, one, two),
+        15 => Tag::Privilege(Place::Member, two, one),
         _ => Tag::Other,
     }
 }

@@ -7,6 +7,7 @@ pub mod TurnLooks
 pub mod StandsNow
 pub mod StandsKept
 pub mod TurnTags
+pub mod TurnPlaces
 pub mod TurnSet
 pub mod TurnRule
 pub mod TurnsKinds

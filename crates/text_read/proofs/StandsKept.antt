@@ -1,6 +1,6 @@
 -- The rules that have ended: one more is kept where it has a place, and counted.
 -- Assumes nothing.
-use Prim.Native.Nat.{ℕ, suc, _+_, _*_, _≤_, _<_}
+use Prim.Native.Nat.{ℕ, suc, _+_, _*_, _≤_, _<_, min}
 use native.Mathlib.Decide.{decLt}
 use native.Mathlib.Omega.{arith}
 use mathlib.Core.Path.{_≡_, refl, sym, ap, subst, _∙_}
@@ -15,8 +15,7 @@ use Rattle.table_write.specs.Writing.{over}
 use Rattle.table_write.proofs.Parts.{part-before, part-here}
 use Rattle.xml.specs.Tags.{squeezed}
 use Rattle.xml.specs.Read.{newDraft, Reading}
-use Rattle.drafts.specs.Draft.{capped, draftBlock, ruleBlock}
-use Rattle.drafts.proofs.Numbers.{capped-few, capped-below, capped-more}
+use Rattle.drafts.specs.Draft.{draftBlock, ruleBlock}
 use Rattle.text_read.specs.Stands.{Stands}
 use Rattle.text_read.specs.declared.sheet.Sheet.{Sheet}
 use Rattle.text_read.proofs.StandsNow.{no-step}
@@ -26,10 +25,10 @@ abbrev pub Kept : List Rule → List ℕ → Type 0
 Kept rs image = (k : ℕ) → k < length rs → k < mostRules → block image k ≡ getD (map ruleBlock rs) k []
 
 -- rule r ends behind the rules rs, n of them counted
-module _ (rs : List Rule) (r : Rule) (n : ℕ) (count : n ≡ capped (suc mostRules) (length rs)) where
+module _ (rs : List Rule) (r : Rule) (n : ℕ) (count : n ≡ min (suc mostRules) (length rs)) where
   -- one more is counted
-  pub count-more : capped (suc mostRules) (n + 1) ≡ capped (suc mostRules) (length (rs ++ (r ∷ [])))
-  count-more = rw (count, length-append) (capped-more (suc mostRules) (length rs))
+  pub count-more : min (suc mostRules) (n + 1) ≡ min (suc mostRules) (length (rs ++ (r ∷ [])))
+  count-more = rw length-append (omega arith)
 
   -- its block b is kept as block n, if there may be such a rule
   module _
@@ -41,8 +40,6 @@ module _ (rs : List Rule) (r : Rule) (n : ℕ) (count : n ≡ capped (suc mostRu
       where
         go : Dec (n < mostRules) → block image′ k ≡ block image k
         go (yes l) =
-            let few = capped-below 33 (length rs) 31 (omega arith) (omega arith) in
-            let e = capped-few 33 (length rs) (omega arith) in
             ap (λ (i : List ℕ). block i k) (put l) ∙ part-before image (512 * n) 512 b sized (omega arith) (512 * k) 512 (omega arith)
         go (no g) = ap (λ (i : List ℕ). block i k) (left (omega arith))
 
@@ -56,7 +53,6 @@ module _ (rs : List Rule) (r : Rule) (n : ℕ) (count : n ≡ capped (suc mostRu
         go (no g) =
             let all = length-append rs (r ∷ []) in
             let here : k ≡ length rs = omega arith in
-            let e = capped-few 33 (length rs) (omega arith) in
             let at : k ≡ n = omega arith in
             ap (λ (i : List ℕ). block i k) (put (omega arith))
             ∙ rw at (part-here image (512 * n) 512 b sized (omega arith))
@@ -69,7 +65,7 @@ pub rule-ended :
     → length image ≡ blockBytes * mostRules → length b ≡ blockBytes → b ≡ ruleBlock r
     → (sheet .rules < mostRules → image′ ≡ over image (blockBytes * sheet .rules) blockBytes b) → (mostRules ≤ sheet .rules → image′ ≡ image)
     → d′ ≡ draftBlock [] (newDraft [])
-    → sheet′ ≡ record { rules = capped (suc mostRules) (sheet .rules + 1); context = record { from = 0; to = 0 } }
+    → sheet′ ≡ record { rules = min (suc mostRules) (sheet .rules + 1); context = record { from = 0; to = 0 } }
     → Stands t (record { rules = s .rules ++ r ∷ []; rule = newDraft []; exclusion = s .exclusion }) x d′ image′ sheet′
 unfolding squeezed keep
 rule-ended {t} {x} {image = image} {s} {sheet} stands r {b} {d′} {image′} long sized is put left e is′ =

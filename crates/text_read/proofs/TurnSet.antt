@@ -1,7 +1,6 @@
 -- The set's end: what the count of rules says of it.
 -- Assumes nothing.
-use Prim.Native.Nat.{ℕ, suc, _+_, _-_, _*_, _≤_, _<_}
-use native.Mathlib.Decide.{decLt}
+use Prim.Native.Nat.{ℕ, suc, _+_, _-_, _*_, _≤_, _<_, min}
 use native.Mathlib.Omega.{arith}
 use mathlib.Core.Path.{_≡_}
 use mathlib.Core.Bool.{false, _&&_}
@@ -13,24 +12,17 @@ use Rattle.format.specs.Layout.{blockBytes, mostRules, policyBlocks}
 use Rattle.format.specs.Block.{blocks}
 use Rattle.format.specs.Policy.{ruleCount}
 use Rattle.xml.specs.Read.{Reading, goodSet}
-use Rattle.drafts.specs.Draft.{capped}
-use Rattle.drafts.proofs.Numbers.{capped-few, capped-below}
 
-module _ (second : List ℕ) (room : ℕ) (s : Reading) (n : ℕ) (count : n ≡ capped (suc mostRules) (length (s .rules))) where
+module _ (second : List ℕ) (room : ℕ) (s : Reading) (n : ℕ) (count : n ≡ min (suc mostRules) (length (s .rules))) where
   -- with rules in number, it is good by its blocks
   pub set-tests : (p : ℕ) → p ≡ blocks second - ruleCount second → n ≤ mostRules
       → goodSet second room s ≡ (leb 1 (n + p) && leb (n + p) policyBlocks && leb (blockBytes * (n + p)) room)
   unfolding goodSet
   set-tests p is h =
-      let few = capped-below 33 (length (s .rules)) 32 (omega arith) (omega arith) in
-      let same : n ≡ length (s .rules) = omega (arith, capped-few 33 (length (s .rules)) (omega arith)) in
-      rw (same, is, le-leb (length (s .rules)) 32 few)
+      let same : n ≡ length (s .rules) = omega arith in
+      rw (same, is, le-leb (length (s .rules)) 32 (omega arith))
 
   -- with more it is not
   pub set-too-long : mostRules < n → goodSet second room s ≡ false
   unfolding goodSet
-  set-too-long h = go (decLt 32 (length (s .rules)))
-    where
-      go : Dec (32 < length (s .rules)) → goodSet second room s ≡ false
-      go (yes l) = rw (lt-leb (length (s .rules)) 32 l)
-      go (no g) = absurd (omega (arith, capped-few 33 (length (s .rules)) (omega arith)))
+  set-too-long h = rw (lt-leb (length (s .rules)) 32 (omega arith))

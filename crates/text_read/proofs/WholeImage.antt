@@ -5,9 +5,7 @@ use native.Mathlib.Omega.{arith}
 use mathlib.Core.Path.{_≡_, refl, sym, ap, ap₂, _∙_}
 use mathlib.Core.List.{List, [], _++_, map}
 use mathlib.Core.Option.{none}
-use borrow.Author.Tests.{leb-true}
 use lib.ListN.{length, drop, getD}
-use lib.Dec.{leb}
 use Rattle.words.specs.Bytes.{zeros}
 use Rattle.word_laws.proofs.Lists.{getD-map}
 use Rattle.format.specs.Answer.{accept, Outcome, refusing}
@@ -17,14 +15,12 @@ use Rattle.format.specs.Rule.{Rule}
 use Rattle.format.specs.Policy.{ruleCount, policyFault}
 use Rattle.format_laws.proofs.AcceptedPolicy.{rules-few}
 use Rattle.xml.specs.Blocks.{imageOf, ruleImage}
-use Rattle.xml.specs.Read.{newDraft, ruleFrom, goodSet, goodTags}
+use Rattle.xml.specs.Read.{newDraft, ruleFrom, goodTags}
 use Rattle.xml_calls.specs.Calls.{resulting, readFault, readImage}
-use Rattle.xml_laws.proofs.ReadExclusion.{four}
-use Rattle.xml_laws.proofs.ReadAccepted.{rulesRead, second-accepted, limits}
+use Rattle.xml_laws.proofs.ReadAccepted.{rulesRead, second-accepted, in-limits}
 use Rattle.numbering.specs.Numbered.{together}
 use Rattle.numbering.proofs.Fronts.{image-kept}
 use Rattle.drafts.specs.Draft.{ruleBlock}
-use Rattle.drafts.proofs.Numbers.{capped-few}
 use Rattle.text_read.specs.Stands.{ReadIs}
 use Rattle.text_read.specs.Code.{outcome, readOf}
 use Rattle.text_read.specs.declared.read.Read.the-variants.{Length}
@@ -33,27 +29,18 @@ use Rattle.text_read.specs.declared.sheet.Turn.{Turn}
 module _
     (text l second : List ℕ) (room : ℕ) (faultless : readFault text l second room ≡ none) {image : List ℕ} {turn : Turn}
     (read : ReadIs l second room (goodTags text) image turn) (z : turn .fault ≡ 0) where
-  -- the limits as numbers
-  in-limits : let n = length (rulesRead text l) + (blocks second - ruleCount second) in
-      (length (rulesRead text l) ≤ mostRules) × (n ≤ policyBlocks) × (blockBytes * n ≤ room)
-  unfolding goodSet
-  in-limits =
-      let n : ℕ = length (rulesRead text l) + (blocks second - ruleCount second) in
-      let f = four (leb (length (rulesRead text l)) mostRules) (leb 1 n) (leb n policyBlocks) (leb (blockBytes * n) room) (limits text l second room faultless) in
-      (leb-true _ _ (f .0), leb-true _ _ (f .2), leb-true _ _ (f .3))
-
   -- all rules were counted
   counted : turn .sheet .rules ≡ length (rulesRead text l)
-  counted = read .rules z ∙ capped-few 33 (length (rulesRead text l)) (omega (arith, in-limits .0))
+  counted = omega (arith, read .rules z, in-limits text l second room faultless .0)
 
   -- what is asked for writing the image
   pub image-fits : (first : ℕ) → first ≡ ruleCount second → length image ≡ blockBytes * mostRules → let n = turn .sheet .rules in
       ((blockBytes * n ≤ length image) × (first ≤ blocks second) × (first ≡ ruleCount second))
       × ((n + (blocks second - first) ≤ policyBlocks) × (blockBytes * (n + (blocks second - first)) ≤ room))
   image-fits first is long =
-      let i = in-limits in
+      let i = in-limits text l second room faultless in
       let few = rules-few second (second-accepted text l second room faultless) in
-      rw (counted, is) ((omega arith, few, refl), (i .1, i .2))
+      rw (counted, is) ((omega arith, few, refl), (i .2, i .3))
 
   -- the image that was written is the one that is asked for
   same : imageOf (together image (turn .sheet .rules) second) ≡ readImage text l second
@@ -62,7 +49,7 @@ module _
       let blank : Rule = ruleFrom [] (newDraft []) in
       rw counted
       (image-kept (zeros 8) image second (rulesRead text l) blank
-      (λ k h. read .kept z k h (omega (arith, in-limits .0)) ∙ getD-map ruleBlock (rulesRead text l) k blank [] h))
+      (λ k h. read .kept z k h (omega (arith, in-limits text l second room faultless .0)) ∙ getD-map ruleBlock (rulesRead text l) k blank [] h))
 
   -- so it and its length are the answer
   pub image-read : (output : List ℕ) {output′ : List ℕ} {n : ℕ} → let written = imageOf (together image (turn .sheet .rules) second) in

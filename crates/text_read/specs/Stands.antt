@@ -1,6 +1,6 @@
 -- What the code has of what was read so far.
 -- Assumes nothing.
-use Prim.Native.Nat.{ℕ, zero, suc, _<_}
+use Prim.Native.Nat.{ℕ, zero, suc, _<_, min}
 use mathlib.Core.Path.{_≡_}
 use mathlib.Core.List.{List, [], map}
 use mathlib.Core.Option.{Option, none, some}
@@ -8,10 +8,13 @@ use lib.ListN.{length, getD}
 use Rattle.format.specs.Answer.{Refusal, refusal}
 use Rattle.format.specs.Layout.{blockBytes, mostRules}
 use Rattle.format.specs.Block.{block}
+use Rattle.format.specs.Rule.{Privilege}
 use Rattle.xml.specs.Tags.{Tag}
-use Rattle.xml.specs.Read.{Reading, nothingRead, tagFault, afterTag, tagsFault, afterTags}
+use Rattle.xml.specs.Read.{Reading, nothingRead, withMember, withFirst, withLast, inRule, inExclusion, tagFault, afterTag, tagsFault, afterTags}
 use Rattle.tags.specs.Code.{valueAt, InText}
-use Rattle.drafts.specs.Draft.{capped, exclusionBlock, draftBlock, ruleBlock, StepFits, MembersFit}
+use Rattle.tags.specs.declared.tag.Place.{Place}
+use Rattle.tags.specs.declared.tag.Place.the-variants.{First, Last, Member}
+use Rattle.drafts.specs.Draft.{exclusionBlock, draftBlock, ruleBlock, StepFits, MembersFit}
 use Rattle.text_read.specs.declared.sheet.Sheet.{Sheet}
 use Rattle.text_read.specs.declared.sheet.Turn.{Turn}
 
@@ -19,6 +22,12 @@ use Rattle.text_read.specs.declared.sheet.Turn.{Turn}
 unfoldable pub faultFrom : ℕ → Option Refusal
 faultFrom zero = none
 faultFrom (suc n) = some (refusal (suc n) 0 0)
+
+-- what is read with one privilege more
+abbrev pub withPrivilege : Place → Reading → Privilege → Reading
+withPrivilege First s p = inRule s (withFirst (s .rule) p)
+withPrivilege Last s p = inRule s (withLast (s .rule) p)
+withPrivilege Member s p = inExclusion s (withMember (s .exclusion) p)
 
 -- the exclusion and the rule that are being read, in their blocks; where the rule's context stands; how many rules have ended, up to one too many; and the
 -- first 32 of them in their blocks
@@ -30,7 +39,7 @@ pub record Stands (t : List ℕ) (s : Reading) (x d image : List ℕ) (sheet : S
   pub last : StepFits (s .rule .last)
   pub context : valueAt t (sheet .context) ≡ s .rule .context
   pub inText : InText t (sheet .context)
-  pub rules : sheet .rules ≡ capped (suc mostRules) (length (s .rules))
+  pub rules : sheet .rules ≡ min (suc mostRules) (length (s .rules))
   pub kept : (k : ℕ) → k < length (s .rules) → k < mostRules → block image k ≡ getD (map ruleBlock (s .rules)) k []
 
 -- a tag was taken in: its fault, or else what is read now
@@ -41,6 +50,6 @@ pub record Turned (t l second : List ℕ) (room : ℕ) (s : Reading) (tag : Tag)
 -- all tags were taken in: the first fault, or else the rules
 pub record ReadIs (l second : List ℕ) (room : ℕ) (tags : List Tag) (image : List ℕ) (turn : Turn) : Type 0 where
   pub fault : faultFrom (turn .fault) ≡ tagsFault l second room nothingRead tags
-  pub rules : turn .fault ≡ 0 → turn .sheet .rules ≡ capped (suc mostRules) (length (afterTags l nothingRead tags .rules))
+  pub rules : turn .fault ≡ 0 → turn .sheet .rules ≡ min (suc mostRules) (length (afterTags l nothingRead tags .rules))
   pub kept : turn .fault ≡ 0 → (k : ℕ) → k < length (afterTags l nothingRead tags .rules) → k < mostRules
       → block image k ≡ getD (map ruleBlock (afterTags l nothingRead tags .rules)) k []

@@ -16,8 +16,6 @@ use crate::sheet::Sheet;
 use crate::sheet::Turn;
 use crate::turns::take_exclusion_end;
 use crate::turns::take_exclusion_start;
-use crate::turns::take_first;
-use crate::turns::take_last;
 use crate::turns::take_privilege;
 use crate::turns::take_role;
 use crate::turns::take_rule_end;
@@ -50,19 +48,19 @@ fn take_tag(
         Tag::EndSet => take_set_end(permissions, room, sheet),
         Tag::StartRule(context) => take_rule_start(context, d, sheet),
         Tag::EndRule => take_rule_end(list, text, d, image, sheet),
-        Tag::FirstStep(operation, target) => take_first(list, text, operation, target, d, sheet),
-        Tag::LastStep(operation, target) => take_last(list, text, operation, target, d, sheet),
-        Tag::StartExclusion(kind, m) => take_exclusion_start(kind, text, m, x, sheet),
-        Tag::EndExclusion => take_exclusion_end(x, d, sheet),
-        Tag::Role(value) => take_role(list, text, value, x, sheet),
-        Tag::Privilege(operation, target) => take_privilege(
+        Tag::Privilege(place, operation, target) => take_privilege(
+            place,
             list,
             text,
             operation,
             target,
             x,
+            d,
             sheet,
         ),
+        Tag::StartExclusion(kind, m) => take_exclusion_start(kind, text, m, x, sheet),
+        Tag::EndExclusion => take_exclusion_end(x, d, sheet),
+        Tag::Role(value) => take_role(list, text, value, x, sheet),
         Tag::Other => Turn { fault: 0, sheet },
     }
 }

@@ -1,8 +1,7 @@
 // What is known of the text while it is read, beside the blocks.
 ghost use mathlib.Core.Path.{_≡_};
-ghost use Prim.Native.Nat.{suc, _+_};
+ghost use Prim.Native.Nat.{suc, _+_, min};
 ghost use Rattle.format.specs.Layout.{mostRules};
-ghost use Rattle.drafts.specs.Draft.{capped};
 use fields::layout::MOST_RULES;
 use tags::span::Span;
 
@@ -21,7 +20,7 @@ pub struct Turn {
 impl Sheet {
     // One rule more has ended, and no other has begun.
     pub fn with_rule(self) -> Sheet
-        ensures { λ r. ⌜ r ≡ record { rules = capped (suc mostRules) (self .rules + 1); context = record { from = 0; to = 0 } } ⌝ }
+        ensures { λ r. ⌜ r ≡ record { rules = min (suc mostRules) (self .rules + 1); context = record { from = 0; to = 0 } } ⌝ }
     {
         let none = Span { from: 0, to: 0 };
         if self.rules <= MOST_RULES as usize {

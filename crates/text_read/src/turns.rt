@@ -7,12 +7,15 @@ ghost use lib.ListN.{length};
 ghost use lib.Dec.{leb};
 ghost use Rattle.format.specs.Layout.{blockBytes, mostRules, policyBlocks};
 ghost use Rattle.format.specs.Block.{blocks};
+ghost use Rattle.format.specs.Rule.{Privilege as Given};
 ghost use Rattle.format.specs.Policy.{ruleCount};
+ghost use Rattle.fields.specs.Code.{privilegeOf as privilegeHere};
 ghost use Rattle.xml.specs.Names.{goodNames};
-ghost use Rattle.xml.specs.Tags.{endSet, startRule, endRule, firstStep, lastStep, startExclusion, endExclusion, role, privilege};
+ghost use Rattle.xml.specs.Tags.{endSet, startRule, endRule, startExclusion, endExclusion, role};
 ghost use Rattle.xml.specs.Read.{Reading};
-ghost use Rattle.tags.specs.Code.{valueAt, InText};
-ghost use Rattle.text_read.specs.Stands.{Stands, Turned};
+ghost use Rattle.tags.specs.Code.{valueAt, InText, privilegeAs};
+ghost use Rattle.drafts.specs.Draft.{PrivilegeFits};
+ghost use Rattle.text_read.specs.Stands.{withPrivilege, Stands, Turned};
 use crate::levels::read_levels;
 use crate::look_up::privilege_in;
 use crate::look_up::role_in;
@@ -31,8 +34,10 @@ use fields::layout::BLOCK_BYTES;
 use fields::layout::HIGHEST_ROLE;
 use fields::layout::MOST_RULES;
 use fields::layout::POLICY_BLOCKS;
+use fields::privilege::Privilege;
 use tags::number::cardinality;
 use tags::span::Span;
+use tags::tag::Place;
 
 // "42 for a name .. not listed, 43 for what breaks document 01's limits"
 const NOT_LISTED: u32 = 42;
@@ -76,54 +81,6 @@ pub fn take_rule_start(context: Span, d: &mut [u8], sheet: Sheet) -> Turn
             context,
         },
     }
-}
-
-// The first step.
-pub fn take_first(
-    list: &[u8],
-    text: &[u8],
-    operation: Span,
-    target: Span,
-    d: &mut [u8],
-    sheet: Sheet,
-) -> Turn
-    requires { ⌜ (goodNames (now list) ≡ true) × InText (now text) operation × InText (now text) target ⌝ }
-    requires { ⌜ length (now d) ≡ blockBytes ⌝ }
-    ensures { λ r. ⌜ ((second : List ℕ) (room : ℕ) (s : Reading) (x image : List ℕ) → Stands (now (text .entry)) s x (now (d .entry)) image sheet → Turned (now (text .entry)) (now (list .entry)) second room s (firstStep (valueAt (now (text .entry)) operation) (valueAt (now (text .entry)) target)) x (now (d .exit)) image r) ⌝ }
-{
-    let p = privilege_in(list, text, operation, target);
-    if !p.full() {
-        return Turn {
-            fault: NOT_LISTED,
-            sheet,
-        };
-    }
-    set_first(d, p);
-    Turn { fault: 0, sheet }
-}
-
-// The last step.
-pub fn take_last(
-    list: &[u8],
-    text: &[u8],
-    operation: Span,
-    target: Span,
-    d: &mut [u8],
-    sheet: Sheet,
-) -> Turn
-    requires { ⌜ (goodNames (now list) ≡ true) × InText (now text) operation × InText (now text) target ⌝ }
-    requires { ⌜ length (now d) ≡ blockBytes ⌝ }
-    ensures { λ r. ⌜ ((second : List ℕ) (room : ℕ) (s : Reading) (x image : List ℕ) → Stands (now (text .entry)) s x (now (d .entry)) image sheet → Turned (now (text .entry)) (now (list .entry)) second room s (lastStep (valueAt (now (text .entry)) operation) (valueAt (now (text .entry)) target)) x (now (d .exit)) image r) ⌝ }
-{
-    let p = privilege_in(list, text, operation, target);
-    if !p.full() {
-        return Turn {
-            fault: NOT_LISTED,
-            sheet,
-        };
-    }
-    set_last(d, p);
-    Turn { fault: 0, sheet }
 }
 
 // The rule ends: its context's names, then its limits. Then no rule is being read.
@@ -187,27 +144,41 @@ pub fn take_role(list: &[u8], text: &[u8], value: Span, x: &mut [u8], sheet: She
     Turn { fault: 0, sheet }
 }
 
-// A privilege is a member.
+// Puts a privilege where it belongs: the steps into the rule, a member into the exclusion.
+fn put_privilege(place: Place, p: Privilege, x: &mut [u8], d: &mut [u8])
+    requires { ⌜ (length (now x) ≡ blockBytes) × (length (now d) ≡ blockBytes) ⌝ }
+    ensures { λ r. ⌜ ((t : List ℕ) (s : Reading) (image : List ℕ) (sheet : Sheet) (q : Given) → privilegeHere p ≡ q → PrivilegeFits q → Stands t s (now (x .entry)) (now (d .entry)) image sheet → Stands t (withPrivilege place s q) (now (x .exit)) (now (d .exit)) image sheet) ⌝ }
+{
+    match place {
+        Place::First => set_first(d, p),
+        Place::Last => set_last(d, p),
+        Place::Member => add_privilege(x, p),
+    }
+}
+
+// A step, or a privilege that is a member.
 pub fn take_privilege(
+    place: Place,
     list: &[u8],
     text: &[u8],
     operation: Span,
     target: Span,
     x: &mut [u8],
+    d: &mut [u8],
     sheet: Sheet,
 ) -> Turn
     requires { ⌜ (goodNames (now list) ≡ true) × InText (now text) operation × InText (now text) target ⌝ }
-    requires { ⌜ length (now x) ≡ blockBytes ⌝ }
-    ensures { λ r. ⌜ ((second : List ℕ) (room : ℕ) (s : Reading) (d image : List ℕ) → Stands (now (text .entry)) s (now (x .entry)) d image sheet → Turned (now (text .entry)) (now (list .entry)) second room s (privilege (valueAt (now (text .entry)) operation) (valueAt (now (text .entry)) target)) (now (x .exit)) d image r) ⌝ }
+    requires { ⌜ (length (now x) ≡ blockBytes) × (length (now d) ≡ blockBytes) ⌝ }
+    ensures { λ r. ⌜ ((second : List ℕ) (room : ℕ) (s : Reading) (image : List ℕ) → Stands (now (text .entry)) s (now (x .entry)) (now (d .entry)) image sheet → Turned (now (text .entry)) (now (list .entry)) second room s (privilegeAs place (valueAt (now (text .entry)) operation) (valueAt (now (text .entry)) target)) (now (x .exit)) (now (d .exit)) image r) ⌝ }
 {
-    let member = privilege_in(list, text, operation, target);
-    if !member.full() {
+    let p = privilege_in(list, text, operation, target);
+    if !p.full() {
         return Turn {
             fault: NOT_LISTED,
             sheet,
         };
     }
-    add_privilege(x, member);
+    put_privilege(place, p, x, d);
     Turn { fault: 0, sheet }
 }
 

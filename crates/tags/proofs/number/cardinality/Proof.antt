@@ -1,12 +1,11 @@
 -- `tags::number::cardinality` meets its contract.
 -- Assumes nothing.
-use Prim.Native.Nat.{_-_, _≤_}
+use Prim.Native.Nat.{_-_, _≤_, min}
 use native.Mathlib.Omega.{arith}
 use mathlib.Core.Path.{_≡_, refl, sym, _∙_}
 use Rattle.xml.specs.Tags.{squeezed}
 use Rattle.xml.specs.Read.{decimalFrom, decimal}
 use Rattle.tags.specs.Cut.{span}
-use Rattle.tags.specs.Numbers.{capped}
 use Rattle.tags.proofs.Digits.{digit-more, digit-none}
 use borrow.Author.Needs.{needs}
 use Rattle.tags.proofs.number.cardinality.Statement.{statement}
@@ -15,7 +14,7 @@ use Rattle.tags.proofs.number.cardinality.Tie as tie
 abbrev Inv-loop : tie.InvT-loop
 Inv-loop text from to n₀ i₀ n i =
     (from ≤ i) × (i ≤ to) × (n ≤ 255)
-    × (capped (decimalFrom n (squeezed (span text i to))) ≡ capped (decimal (squeezed (span text from to))))
+    × (min 255 (decimalFrom n (squeezed (span text i to))) ≡ min 255 (decimal (squeezed (span text from to))))
 
 abbrev μ-loop : tie.MeasureT-loop
 μ-loop text from to n₀ i₀ n i = to - i

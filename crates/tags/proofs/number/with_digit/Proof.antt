@@ -1,9 +1,6 @@
 -- `tags::number::with_digit` meets its contract.
 -- Assumes nothing.
-use Prim.Native.Nat.{_+_, _-_, _*_}
 use native.Mathlib.Omega.{arith}
-use mathlib.Core.Path.{_≡_, sym}
-use Rattle.tags.proofs.Digits.{capped-low, capped-high}
 use borrow.Author.Needs.{needs}
 use Rattle.tags.proofs.number.with_digit.Statement.{statement}
 use Rattle.tags.proofs.number.with_digit.Tie as tie
@@ -29,9 +26,7 @@ add-more c = search needs
 returns-2 : tie.Need-returns-2
 returns-2 c =
     let d = c .before in
-    let w = d .before .before .before in
-    let a = w .before .args in
-    rw (← w .white .ensures, d .before .before .if1 .left) (sym (capped-high (10 * a .n + (a .b - 48)) (omega arith)))
+    rw (← d .before .before .before .white .ensures, d .before .before .if1 .left) (omega arith)
 
 cast-result : tie.Need-cast-result
 cast-result c = omega arith
@@ -39,10 +34,7 @@ cast-result c = omega arith
 returns-3 : tie.Need-returns-3
 returns-3 c =
     let d = c .before in
-    let w = d .before .before .before in
-    let a = w .before .args in
-    let e : 10 * a .n + (a .b - 48) ≡ 10 * d .before .wide .result + d .digit .result = omega arith in
-    rw (← w .white .ensures, d .before .before .if1 .left, e) (sym (capped-low (10 * d .before .wide .result + d .digit .result) (omega arith)))
+    rw (← d .before .before .before .white .ensures, d .before .before .if1 .left) (omega arith)
 
 pub with-digit-spec : {M : Type 1} → statement M
 with-digit-spec =

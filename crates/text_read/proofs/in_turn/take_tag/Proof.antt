@@ -32,31 +32,21 @@ take-rule-end-requires c κs = search needs
 enum-known-tag-2 : tie.Need-enum-known-tag-2
 enum-known-tag-2 c = search needs
 
-take-first-requires : tie.Need-take-first-requires
-take-first-requires c κs =
-    let k = c .before .before in
+take-privilege-requires : tie.Need-take-privilege-requires
+take-privilege-requires c κs =
+    let k = c .before .before .before in
     let b = k .before .before .before .before .before .before .before in
     let i = in-kind (b .args .text .now) (k .tag2 .given .1) (b .pre .0 .1) in
-    ((b .pre .0 .0, i .0, i .1), b .pre .1 .1)
+    ((b .pre .0 .0, i .0, i .1), (b .pre .1 .0, b .pre .1 .1))
 
 enum-known-tag-3 : tie.Need-enum-known-tag-3
 enum-known-tag-3 c = search needs
-
-take-last-requires : tie.Need-take-last-requires
-take-last-requires c κs =
-    let k = c .before .before in
-    let b = k .before .before .before .before .before .before .before in
-    let i = in-kind (b .args .text .now) (k .tag3 .given .1) (b .pre .0 .1) in
-    ((b .pre .0 .0, i .0, i .1), b .pre .1 .1)
-
-enum-known-tag-4 : tie.Need-enum-known-tag-4
-enum-known-tag-4 c = search needs
 
 take-exclusion-start-requires : tie.Need-take-exclusion-start-requires
 take-exclusion-start-requires c κs =
     let k = c .before .before in
     let b = k .before .before .before .before .before .before .before in
-    let i = in-kind (b .args .text .now) (k .tag4 .given .1) (b .pre .0 .1) in
+    let i = in-kind (b .args .text .now) (k .tag3 .given .1) (b .pre .0 .1) in
     (i, b .pre .1 .0)
 
 enum-told-4 : tie.Need-enum-told-4
@@ -65,25 +55,15 @@ enum-told-4 c = search needs
 take-exclusion-end-requires : tie.Need-take-exclusion-end-requires
 take-exclusion-end-requires c κs = search needs
 
-enum-known-tag-5 : tie.Need-enum-known-tag-5
-enum-known-tag-5 c = search needs
+enum-known-tag-4 : tie.Need-enum-known-tag-4
+enum-known-tag-4 c = search needs
 
 take-role-requires : tie.Need-take-role-requires
 take-role-requires c κs =
     let k = c .before .before in
     let b = k .before .before .before .before .before .before .before in
-    let i = in-kind (b .args .text .now) (k .tag5 .given .1) (b .pre .0 .1) in
+    let i = in-kind (b .args .text .now) (k .tag4 .given .1) (b .pre .0 .1) in
     ((b .pre .0 .0, i), b .pre .1 .0)
-
-enum-known-tag-6 : tie.Need-enum-known-tag-6
-enum-known-tag-6 c = search needs
-
-take-privilege-requires : tie.Need-take-privilege-requires
-take-privilege-requires c κs =
-    let k = c .before .before in
-    let b = k .before .before .before .before .before .before .before in
-    let i = in-kind (b .args .text .now) (k .tag6 .given .1) (b .pre .0 .1) in
-    ((b .pre .0 .0, i .0, i .1), b .pre .1 .0)
 
 enum-told-5 : tie.Need-enum-told-5
 enum-told-5 c = search needs
@@ -126,29 +106,23 @@ returns-4 c =
 same-length-4 : tie.Need-same-length-4
 same-length-4 c = search needs
 
-returns-5 : tie.Need-returns-5
-returns-5 c =
-    let k = c .before .before .before .before .before in
-    let a = k .before .before .before .before .before .before .before .args in
-    λ second s p h. by-kind (a .text .now) (k .tag2 .given .1) (c .before .before .take-first .ensures second (a .room) s (a .x .now) (a .image .now) h)
-
 same-length-5 : tie.Need-same-length-5
 same-length-5 c = search needs
+
+returns-5 : tie.Need-returns-5
+returns-5 c =
+    let k = c .before .before .before .before .before .before .before .before in
+    let a = k .before .before .before .before .before .before .before .args in
+    λ second s p h. by-kind (a .text .now) (k .tag2 .given .1) (c .before .before .before .before .take-privilege .ensures second (a .room) s (a .image .now) h)
+
+same-length-6 : tie.Need-same-length-6
+same-length-6 c = search needs
 
 returns-6 : tie.Need-returns-6
 returns-6 c =
     let k = c .before .before .before .before .before in
     let a = k .before .before .before .before .before .before .before .args in
-    λ second s p h. by-kind (a .text .now) (k .tag3 .given .1) (c .before .before .take-last .ensures second (a .room) s (a .x .now) (a .image .now) h)
-
-same-length-6 : tie.Need-same-length-6
-same-length-6 c = search needs
-
-returns-7 : tie.Need-returns-7
-returns-7 c =
-    let k = c .before .before .before .before .before in
-    let a = k .before .before .before .before .before .before .before .args in
-    λ second s p h. by-kind (a .text .now) (k .tag4 .given .1) (c .before .before .take-exclusion-start .ensures (a .list .now) second (a .room) s (a .d .now) (a .image .now) h)
+    λ second s p h. by-kind (a .text .now) (k .tag3 .given .1) (c .before .before .take-exclusion-start .ensures (a .list .now) second (a .room) s (a .d .now) (a .image .now) h)
 
 same-length-7 : tie.Need-same-length-7
 same-length-7 c = search needs
@@ -156,8 +130,8 @@ same-length-7 c = search needs
 same-length-8 : tie.Need-same-length-8
 same-length-8 c = search needs
 
-returns-8 : tie.Need-returns-8
-returns-8 c =
+returns-7 : tie.Need-returns-7
+returns-7 c =
     let k = c .before .before .before .before .before .before .before in
     let a = k .before .before .before .before .before .before .before .args in
     λ second s p h. by-kind (a .text .now) (k .enum-told4 .given .1) (c .before .before .before .before .take-exclusion-end .ensures (a .text .now) (a .list .now) second (a .room) s (a .image .now) h)
@@ -165,24 +139,15 @@ returns-8 c =
 same-length-9 : tie.Need-same-length-9
 same-length-9 c = search needs
 
+returns-8 : tie.Need-returns-8
+returns-8 c =
+    let k = c .before .before .before .before .before in
+    let a = k .before .before .before .before .before .before .before .args in
+    λ second s p h. by-kind (a .text .now) (k .tag4 .given .1) (c .before .before .take-role .ensures second (a .room) s (a .d .now) (a .image .now) h)
+
 returns-9 : tie.Need-returns-9
-returns-9 c =
-    let k = c .before .before .before .before .before in
-    let a = k .before .before .before .before .before .before .before .args in
-    λ second s p h. by-kind (a .text .now) (k .tag5 .given .1) (c .before .before .take-role .ensures second (a .room) s (a .d .now) (a .image .now) h)
-
-same-length-10 : tie.Need-same-length-10
-same-length-10 c = search needs
-
-returns-10 : tie.Need-returns-10
-returns-10 c =
-    let k = c .before .before .before .before .before in
-    let a = k .before .before .before .before .before .before .before .args in
-    λ second s p h. by-kind (a .text .now) (k .tag6 .given .1) (c .before .before .take-privilege .ensures second (a .room) s (a .d .now) (a .image .now) h)
-
-returns-11 : tie.Need-returns-11
 unfolding tagFault afterTag
-returns-11 c =
+returns-9 c =
     let k = c in
     let a = k .before .before .before .before .before .before .before .args in
     λ second s p h. by-kind (a .text .now) (k .enum-told5 .given .1) (taken refl h)
@@ -199,17 +164,13 @@ take-tag-spec =
     enum-told-3
     take-rule-end-requires
     enum-known-tag-2
-    take-first-requires
+    take-privilege-requires
     enum-known-tag-3
-    take-last-requires
-    enum-known-tag-4
     take-exclusion-start-requires
     enum-told-4
     take-exclusion-end-requires
-    enum-known-tag-5
+    enum-known-tag-4
     take-role-requires
-    enum-known-tag-6
-    take-privilege-requires
     enum-told-5
     returns
     returns-2
@@ -219,16 +180,13 @@ take-tag-spec =
     same-length-3
     returns-4
     same-length-4
-    returns-5
     same-length-5
-    returns-6
+    returns-5
     same-length-6
-    returns-7
+    returns-6
     same-length-7
     same-length-8
-    returns-8
+    returns-7
     same-length-9
-    returns-9
-    same-length-10
-    returns-10
-    returns-11)
+    returns-8
+    returns-9)
