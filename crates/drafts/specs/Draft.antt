@@ -5,7 +5,7 @@ use mathlib.Core.List.{List, [], _∷_, _++_, flatten}
 use lib.ListN.{length, getD}
 use Rattle.words.specs.Lists.{tab}
 use Rattle.words.specs.Bytes.{zeros}
-use Rattle.format.specs.Layout.{blockBytes, depthAt, ruleSpareBytes, mostLevels, kindAt, exclusionBytes, mostExclusions, mostMembers, ruleTailAt}
+use Rattle.format.specs.Layout.{blockBytes, depthAt, ruleSpareBytes, mostLevels, kindAt, exclusionBytes, mostExclusions, ruleTailAt}
 use Rattle.format.specs.Rule.{Level, Privilege, Step, Exclusion, Rule}
 use Rattle.xml.specs.Blocks.{levelImage, privilegeImage, exclusionImage, ruleImage}
 use Rattle.xml.specs.Read.{blankPrivilege, levelFrom, Members, newMembers, exclusionOf, Draft}

@@ -4,13 +4,13 @@ use Prim.Native.Nat.{ℕ, zero, suc}
 use native.Mathlib.Omega.{arith}
 use mathlib.Core.Path.{_≡_, refl, sym, ap, _∙_}
 use mathlib.Core.List.{List, [], _∷_}
-use mathlib.Core.Option.{Option, none, some}
+use mathlib.Core.Option.{Option, none}
 use Rattle.words.specs.Lists.{keep}
 use Rattle.words.specs.First.{_orElse_}
 use Rattle.words.specs.Bytes.{zeros}
-use Rattle.format.specs.Answer.{Refusal, refusal}
+use Rattle.format.specs.Answer.{Refusal}
 use Rattle.xml.specs.Tags.{Tag, squeezed}
-use Rattle.xml.specs.Read.{Reading, nothingRead, tagFault, afterTag, tagsFault, afterTags}
+use Rattle.xml.specs.Read.{Reading, nothingRead, afterTag, tagsFault, afterTags}
 use Rattle.drafts.proofs.ExclusionBlock as exclusions
 use Rattle.drafts.proofs.DraftBlock as drafts
 use Rattle.text_read.specs.Stands.{faultFrom, Stands, Turned, ReadIs}

@@ -5,7 +5,7 @@ use native.Mathlib.Omega.{arith}
 use mathlib.Core.Path.{_≡_, refl, sym, ap, subst, _∙_}
 use mathlib.Core.Bool.{Bool, true, false, cond}
 use mathlib.Core.List.{List, [], _∷_, map}
-use mathlib.Core.Option.{Option, none, some}
+use mathlib.Core.Option.{Option, none}
 use lib.ListN.{length, take}
 use Rattle.words.specs.First.{_orElse_, unless}
 use Rattle.word_laws.proofs.First.{none-orElse, unless-passes, unless-fails}
@@ -14,7 +14,7 @@ use Rattle.format.specs.Policy.{policyFault}
 use Rattle.forms.specs.Form.{Form, isOfForm, reach, hopeless, left}
 use Rattle.xml.specs.Grammar.{set}
 use Rattle.xml.specs.Names.{goodNames, namesFault}
-use Rattle.xml.specs.Tags.{Tag, tagsIn, tagOf}
+use Rattle.xml.specs.Tags.{tagsIn, tagOf}
 use Rattle.xml.specs.Read.{nothingRead, tagsFault, goodTags}
 use Rattle.xml_calls.specs.Calls.{readFault}
 use Rattle.text_read.specs.Stands.{faultFrom, ReadIs}

@@ -1,20 +1,20 @@
 -- Reading without a fault: the rules that were kept make the image that is asked for.
 -- Assumes nothing.
-use Prim.Native.Nat.{ℕ, suc, _+_, _-_, _*_, _≤_, _<_}
+use Prim.Native.Nat.{ℕ, _+_, _-_, _*_, _≤_}
 use native.Mathlib.Omega.{arith}
-use mathlib.Core.Path.{_≡_, refl, sym, ap, ap₂, _∙_}
-use mathlib.Core.List.{List, [], _++_, map}
+use mathlib.Core.Path.{_≡_, refl, _∙_}
+use mathlib.Core.List.{List, [], _++_}
 use mathlib.Core.Option.{none}
-use lib.ListN.{length, drop, getD}
+use lib.ListN.{length, drop}
 use Rattle.words.specs.Bytes.{zeros}
 use Rattle.word_laws.proofs.Lists.{getD-map}
-use Rattle.format.specs.Answer.{accept, Outcome, refusing}
+use Rattle.format.specs.Answer.{refusing}
 use Rattle.format.specs.Layout.{blockBytes, mostRules, policyBlocks}
-use Rattle.format.specs.Block.{blocks, block}
+use Rattle.format.specs.Block.{blocks}
 use Rattle.format.specs.Rule.{Rule}
-use Rattle.format.specs.Policy.{ruleCount, policyFault}
+use Rattle.format.specs.Policy.{ruleCount}
 use Rattle.format_laws.proofs.AcceptedPolicy.{rules-few}
-use Rattle.xml.specs.Blocks.{imageOf, ruleImage}
+use Rattle.xml.specs.Blocks.{imageOf}
 use Rattle.xml.specs.Read.{newDraft, ruleFrom, goodTags}
 use Rattle.xml_calls.specs.Calls.{resulting, readFault, readImage}
 use Rattle.xml_laws.proofs.ReadAccepted.{rulesRead, second-accepted, in-limits}

@@ -6,7 +6,7 @@ use mathlib.Core.List.{List, [], map}
 use mathlib.Core.Option.{Option, none, some}
 use lib.ListN.{length, getD}
 use Rattle.format.specs.Answer.{Refusal, refusal}
-use Rattle.format.specs.Layout.{blockBytes, mostRules}
+use Rattle.format.specs.Layout.{mostRules}
 use Rattle.format.specs.Block.{block}
 use Rattle.format.specs.Rule.{Privilege}
 use Rattle.xml.specs.Tags.{Tag}

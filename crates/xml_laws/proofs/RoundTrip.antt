@@ -1,28 +1,28 @@
 -- The round trip, that every text that reads gives an accepted policy, and that writing what was read and reading it again changes nothing:
 -- crates/xml_calls/specs/RoundTrip.antt says what these claim.
 -- Assumes nothing.
-use Prim.Native.Nat.{ℕ, zero, suc, _<_, _≤_}
+use Prim.Native.Nat.{ℕ, zero, suc, _≤_}
 use native.Mathlib.Omega.{arith}
-use mathlib.Core.Path.{_≡_, refl, sym, ap, _∙_}
-use mathlib.Core.List.{List, [], _∷_, _++_, map}
+use mathlib.Core.Path.{_≡_, refl, ap, _∙_}
+use mathlib.Core.List.{List, [], _∷_, _++_}
 use mathlib.Core.Option.{Option, none, some}
-use lib.ListN.{length, take, drop, getD}
+use lib.ListN.{length, drop}
 use lib.Seq.{take-at}
 use Rattle.words.specs.Lists.{tab}
 use Rattle.word_laws.proofs.Bytes.{Byte}
 use Rattle.word_laws.proofs.Every.{Every, empty, more}
 use Rattle.word_laws.proofs.Lists.{map-tab}
-use Rattle.format.specs.Answer.{Refusal, accept, refuse, Outcome, refusing}
+use Rattle.format.specs.Answer.{Refusal, accept, refusing}
 use Rattle.format.specs.Block.{block}
 use Rattle.format.specs.Rule.{ruleAt}
-use Rattle.format.specs.Policy.{policyOf, policyFault, ruleCount}
+use Rattle.format.specs.Policy.{policyOf, ruleCount}
 use Rattle.names.proofs.LookUps.{name-number}
 use Rattle.xml.specs.Blocks.{ruleImage, permissionBlocks, imageOf, rulesImage}
 use Rattle.xml.specs.Write.{rulesText}
 use Rattle.xml_calls.specs.RoundTrip.{Bytes, front, RoundTrip, ReadsPolicies, WritesAgain, ReadsAgain}
 use Rattle.xml_calls.specs.Calls.{resulting, readFault, readImage, readRules, writeFault, writeRules}
 use Rattle.xml_laws.proofs.ImageSame.{same-image}
-use Rattle.xml_laws.proofs.ReadAccepted.{reads-fit, reads-accepted, reads-bytes}
+use Rattle.xml_laws.proofs.ReadAccepted.{reads-accepted, reads-bytes}
 use Rattle.xml_laws.proofs.ReadAgain.{written-again}
 use Rattle.xml_laws.proofs.TextLevels.{Numbered}
 use Rattle.xml_laws.proofs.TextRoundTrip.{written-accepted, written-good, written-fits, text-faultless, text-image}

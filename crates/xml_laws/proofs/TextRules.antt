@@ -18,7 +18,7 @@ use Rattle.xml.specs.Names.{goodNames}
 use Rattle.xml.specs.Tags.{Tag, endSet, startRule, firstStep, lastStep, startExclusion, endExclusion}
 use Rattle.xml.specs.Write.{contextText, memberText, exclusionText, ruleText, rulesText}
 use Rattle.xml.specs.Write.{memberFault}
-use Rattle.reader.specs.Words.{words, named as nameOfWord, word}
+use Rattle.reader.specs.Words.{words, named as nameOfWord}
 use Rattle.xml_laws.proofs.TextPieces.{quoted}
 use Rattle.xml_laws.proofs.TextSays.{Says, says-then, says-same, says-row}
 use Rattle.xml_laws.proofs.TextTags.{Inside, last-step-too, plainTag, oneTag, cardinalityTag, start-set, end-set, start-rule, end-rule, start-roles, start-privileges, end-roles, end-privileges, first-step, last-step}

@@ -11,7 +11,7 @@ use Rattle.forms.proofs.Laws.{lefts-++}
 use Rattle.xml.specs.Grammar.{_▸_}
 use Rattle.xml.specs.Tags.{squeezed, tagsIn, Tag, tagOf}
 use Rattle.reader.specs.Table.{ahead, rest}
-use Rattle.reader.specs.Words.{words, named as nameOfWord, word}
+use Rattle.reader.specs.Words.{word}
 use Rattle.xml_laws.proofs.TextPieces.{quoted, closed, Plain, tag-first}
 use Rattle.xml_laws.proofs.TextRests.{Takes}
 

@@ -19,7 +19,7 @@ use Rattle.xml.specs.Read.{stepOf, noStep, levelFrom, Draft, newMembers, exclus
 use Rattle.xml.specs.Write.{contextText, ruleTextFault}
 use Rattle.xml_laws.proofs.TextListed.{Writable, parts-listed}
 use Rattle.xml_laws.proofs.TextCopies.{AlikeExclusions, copied, blank-is, at-place, good-exclusion, copied-alike, AlikeRules}
-use Rattle.xml_laws.proofs.TextLevels.{Numbered, context-parted, levels-read}
+use Rattle.xml_laws.proofs.TextLevels.{Numbered, levels-read}
 
 -- the rule keeps document 01's limits, and may be written
 pub record Sound (l : List ℕ) (r : Rule) : Type 0 where

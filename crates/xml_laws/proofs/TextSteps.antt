@@ -16,7 +16,7 @@ use Rattle.xml.specs.Tags.{Tag, firstStep, lastStep, role, privilege}
 use Rattle.xml.specs.Read.{listed}
 use Rattle.xml.specs.Write.{nameText, attributeText, stepText, memberText}
 use Rattle.xml.specs.Write.{stepTextFault, memberFault}
-use Rattle.reader.specs.Words.{words, named as nameOfWord, word}
+use Rattle.reader.specs.Words.{words, named as nameOfWord}
 use Rattle.xml_laws.proofs.TextNames.{SomeOf, named}
 use Rattle.xml_laws.proofs.TextPieces.{quoted}
 use Rattle.xml_laws.proofs.TextSays.{Says, says-then}

@@ -1,7 +1,6 @@
 -- `crate::part::counted` meets its contract.
 -- Assumes nothing.
 use native.Mathlib.Omega.{arith}
-use Prim.Native.Nat.{_+_}
 use borrow.Author.Needs.{needs}
 use Rattle.drafts.proofs.part.counted.Statement.{statement}
 use Rattle.drafts.proofs.part.counted.Tie as tie

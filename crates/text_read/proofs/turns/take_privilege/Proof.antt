@@ -1,6 +1,5 @@
 -- `crate::turns::take_privilege` meets its contract.
 -- Assumes nothing.
-use mathlib.Core.Path.{refl}
 use Rattle.fields.specs.Code.{privilegeOf as privilegeHere}
 use Rattle.table_write.proofs.SliceBytes.{slice-bytes}
 use Rattle.xml.specs.Read.{privilegeOf}
