@@ -4,14 +4,15 @@
  * One person adjusts an instrument, another checks it, however many visits lie between the two.
  * The engine is lent a duty policy and a table of earlier grants, takes one request, grants it or
  * refuses it by number, and brings the table up to date. A preview tells beforehand what a request
- * would get. A closing removes all records of a context, such as a depot that shuts. The engine has
- * no state of its own, allocates nothing and opens nothing: all that it knows is in the bytes that it
- * is lent. Of its surroundings it needs `memset` and a stack, nothing else.
+ * would get. A closing removes all records of a context, such as a depot that shuts. A policy's rules
+ * can be read from XML text and written as such. The engine has no state of its own, allocates nothing
+ * and opens nothing: all that it knows is in the bytes that it is lent. Of its surroundings it needs
+ * `memcpy`, `memset` and a stack, nothing else.
  *
  * docs/GUIDE.md tells what a policy means, and what to know before a grant is relied on: separation
  * can be lost outside the engine (a context with its levels in another order, two copies of a table)
- * in ways that no number tells. examples/c/session.c writes a policy and puts requests to it;
- * examples/c/keep.c keeps a table in a file.
+ * in ways that no number tells. examples/c/session.c writes a policy, puts requests to it and shows
+ * its rules as text; examples/c/keep.c keeps a table in a file.
  *
  * Build, on x86-64 Linux, in the root of the repository:
  *
@@ -26,9 +27,10 @@
  *
  *   - Every pointer with its length names memory that is there: readable, and for a `uint8_t *`
  *     (not const) writable too. Length 0 with any pointer, NULL too, is fine and gets its number.
- *   - A table that is written to (sod_fresh_table, sod_decide, sod_close) overlaps nothing else that
- *     is lent. What is only read (every `const uint8_t *`) may overlap.
- *   - While a call that writes to a table is at work, no other thread reads or writes that table;
+ *   - What is written to, the table (sod_fresh_table, sod_decide, sod_close) or the output
+ *     (sod_read_rules, sod_write_rules), overlaps nothing else that is lent. What is only read (every
+ *     `const uint8_t *`) may overlap.
+ *   - While a call that writes to a table or an output is at work, no other thread reads or writes it;
  *     and while any call is at work, no thread writes what it only reads. So different tables may be
  *     decided on at the same time under one policy, and any number of threads may check and preview
  *     one table at the same time, as long as none decides on it or closes a context in it.
@@ -91,6 +93,51 @@
  *              the others are zero. No level is the whole business.
  *
  * A context that is to be closed is 16 bytes: four levels, as in bytes 12 to 27 of a request.
+ *
+ * A list of names is 0 to 1024 entries of 64 bytes:
+ *
+ *     0        kind: 1 context type, 2 context value, 3 role, 4 operation, 5 target
+ *     1        length of the name, 1 to 60
+ *     2-3      the number that the name stands for, from 1
+ *     4-63     the name: bytes 33 to 126 without " & < > = , * !; zero after it
+ *
+ * Within a kind no name and no number stands twice.
+ *
+ * A TEXT OF RULES
+ *
+ * has this form, after section 3 of source document 001; here every attribute has an example of its
+ * value. All of it is ASCII.
+ *
+ *     <MSoDPolicySet>
+ *         <MSoDPolicy BusinessContext="Depot=*, Job=!, Bench=north">
+ *             <FirstStep operation="begin" targetURI="http://works/bench"/>
+ *             <LastStep operation="close" targetURI="http://works/bench"/>
+ *             <MMER ForbiddenCardinality="2">
+ *                 <Role type="employee" value="adjuster"/>
+ *                 <Role type="employee" value="checker"/>
+ *             </MMER>
+ *             <MMEP ForbiddenCardinality="2">
+ *                 <Operation value="adjust" target="http://works/bench"/>
+ *                 <Operation value="check" target="http://works/bench"/>
+ *             </MMEP>
+ *         </MSoDPolicy>
+ *     </MSoDPolicySet>
+ *
+ *   - Rules, levels, exclusions and members may be any in number, none too. A first step, then a last
+ *     step, each of which may be left out, stand before the exclusions; these stand in any mix.
+ *   - Steps and members end in `/>`, all others in an end tag, even if nothing stands in them.
+ *   - Every attribute is there once, in any order, in double quotes. A value is a name, which is one or
+ *     more bytes that a list of names can have; a cardinality is one or more digits; a context is
+ *     levels with commas between them, each a name, an equals sign, and `*` (mark 2, every), `!` (mark
+ *     3, each) or a name (mark 1, fixed). Without a level it is empty.
+ *   - White space (space, tab, carriage return, line feed) may stand before and after the set, between
+ *     elements, round the equals sign of an attribute, before `>` and `/>`, and in a context round its
+ *     commas and equals signs, but not at its two ends. At least one such byte stands before each
+ *     attribute.
+ *   - Nothing else is of the form: no comment, declaration or entity.
+ *
+ * A role's type is read and dropped. Limits and names play no part in the form: they have numbers of
+ * their own.
  */
 #ifndef SOD_H
 #define SOD_H
@@ -99,7 +146,7 @@
 #include <stdint.h>
 
 /* The version of this interface. */
-#define SOD_VERSION "0.4.0"
+#define SOD_VERSION "0.5.0"
 
 /* Whoever drops a reply is warned: a refusal that nobody reads is a step taken all the same. */
 #if defined(__cplusplus) && __cplusplus >= 201703L
@@ -124,9 +171,21 @@ enum {
     SOD_REQUEST = 28,            /* bytes in a request */
     SOD_RECORD = 32,             /* bytes in a record */
     SOD_CONTEXT = 16,            /* bytes in a context */
+    SOD_NAME = 64,               /* bytes in an entry of a list of names */
     SOD_RECORDS_PER_BLOCK = 15,
     SOD_MOST_POLICY_BLOCKS = 64,
-    SOD_MOST_TABLE_BLOCKS = 128
+    SOD_MOST_TABLE_BLOCKS = 128,
+    SOD_MOST_NAMES = 1024,       /* entries in a list of names */
+    SOD_MOST_TEXT = 346079       /* bytes of the longest text that sod_write_rules writes */
+};
+
+/* The kinds of names. */
+enum {
+    SOD_CONTEXT_TYPE = 1,
+    SOD_CONTEXT_VALUE = 2,
+    SOD_ROLE = 3,
+    SOD_OPERATION = 4,
+    SOD_TARGET = 5
 };
 
 /*
@@ -144,11 +203,15 @@ enum {
  *     sod_preview        recorded, removed, held, as sod_decide would return them: held is how many
  *                        records the table would have then
  *     sod_close          removed (records of the context, which are gone), 0, 0
+ *     sod_read_rules     length (bytes of the policy, at the front of the output), 0, 0
+ *     sod_write_rules    length (bytes of the text, at the front of the output), 0, 0
  *
  * Any other number is a refusal; first and second are its places, third is 0. The first number that
- * applies is given: those of the policy, then of the table, then of the request or the context, then
- * of the judgement; within policy and table block by block, and within a block upwards. Blocks count
- * from 0; rules, exclusions, entries and records from 1.
+ * applies is given: those of the policy (in sod_read_rules, of the second image), then of the table,
+ * then of the request or the context, then of the judgement; within policy and table block by block,
+ * and within a block upwards. In the two calls on texts those of the policy are followed by 42 for a
+ * bad list of names; then the text is gone through, and whichever of 41, 42 and 43 stands first is
+ * given. Blocks and bytes count from 0; rules, exclusions, entries and records from 1.
  */
 typedef struct {
     uint32_t number, first, second, third;
@@ -183,7 +246,16 @@ enum {
     SOD_EXCLUSIVE_ROLES = 32,     /* first: the rule; second: its exclusion: with this step the
                                      user would have been active in m of its roles */
     SOD_EXCLUSIVE_PRIVILEGES = 33,/* the same of privileges done */
-    SOD_TABLE_FULL = 34           /* no place for the record: a bigger table is needed */
+    SOD_TABLE_FULL = 34,          /* no place for the record: a bigger table is needed */
+
+    /* The text and its list of names. 0, 0 for 42 and 43. */
+    SOD_TEXT_FORM = 41,           /* first: the byte, from 0, that no text of the form has after those
+                                     before it; the length, if the text stops early; 4294967295 for
+                                     that byte and all after it */
+    SOD_NAMES = 42,               /* the list of names is wrong, or lacks a name of the text or, in
+                                     sod_write_rules, a number of the policy */
+    SOD_TEXT_LIMIT = 43           /* a limit of the policy is broken, no block is left, or the output is
+                                     too short; in sod_write_rules, a level is a range */
 };
 
 /* Checks a policy. Refused by 1 to 6. */
@@ -206,7 +278,7 @@ sod_reply sod_fresh_table(const uint8_t *policy, size_t policy_len,
 /*
  * Decides a request. On a grant the table is brought up to date: what the policy no longer counts is
  * gone, and the request is on record if some rule counts it. Store the table before the step is
- * taken. Refused by any number; then the table is as it was.
+ * taken. Refused by 1 to 6, 11 to 15, 21, 22, 31 to 34; then the table is as it was.
  *
  * Policy and table are checked in every call, so no call is needed before it.
  */
@@ -217,7 +289,7 @@ sod_reply sod_decide(const uint8_t *policy, size_t policy_len,
 
 /*
  * Previews a request: returns what sod_decide would return on a copy of the table, every number and
- * place included, and alters nothing. So it is refused by any number, and by 34 only where the step
+ * place included, and alters nothing. So it is refused by the same numbers, and by 34 only where the step
  * would need a place and its own clearing would make none.
  *
  * Number 0 is no grant. Nothing is recorded and nothing is reserved: until the request is decided,
@@ -243,6 +315,43 @@ SOD_NODISCARD
 sod_reply sod_close(const uint8_t *policy, size_t policy_len,
                     uint8_t *table, size_t table_len,
                     const uint8_t *context, size_t context_len);
+
+/*
+ * Reads rules from a text, and makes them a policy at the front of the output: a block for each rule,
+ * then the permission blocks of the second image, all numbered anew. The second image is any policy;
+ * its rules are left out. What is written passes sod_check_policy. An output of SOD_MOST_POLICY_BLOCKS
+ * blocks is always long enough. Refused by 1 to 6 of the second image, 41 to 43; then the output is as
+ * it was. Else its bytes past the length are.
+ *
+ * Names, then limits, are tested where the innermost element ends that holds all they concern:
+ *
+ *     step, member     its names; a role above 32
+ *     MMER, MMEP       2 <= m <= n <= 8; a role twice
+ *     MSoDPolicy       the names of its context; more than 4 levels; not 1 to 8 exclusions; a first
+ *                      step that is equal to the last
+ *     MSoDPolicySet    more than 32 rules, more than 64 blocks, no block, the length of the output
+ *
+ * So 42 or 43 of what has ended comes before 41 further on.
+ */
+SOD_NODISCARD
+sod_reply sod_read_rules(const uint8_t *text, size_t text_len,
+                         const uint8_t *names, size_t names_len,
+                         const uint8_t *second, size_t second_len,
+                         uint8_t *output, size_t output_len);
+
+/*
+ * Writes the rules of a policy as text at the front of the output, in one spelling: no white space but
+ * one space before each attribute, attributes in the order above, every role of type "role". There is
+ * no zero byte behind it. Reading it with the same names, and with this policy as the second image,
+ * gives this policy again. An output of SOD_MOST_TEXT bytes is always long enough. Refused by 1 to 6,
+ * 42, 43; then the output is as it was. Else its bytes past the length are.
+ *
+ * Rule by rule, 42 comes before 43. A range (mark 4) has no spelling: 43.
+ */
+SOD_NODISCARD
+sod_reply sod_write_rules(const uint8_t *policy, size_t policy_len,
+                          const uint8_t *names, size_t names_len,
+                          uint8_t *output, size_t output_len);
 
 #ifdef __cplusplus
 }

@@ -4,7 +4,7 @@
  *     gcc -Iinclude examples/c/session.c target/staticlib/libsod.a -o target/session && target/session
  *
  * With the word `preview` each line stands behind one that tells beforehand what it will be; with the word `close`
- * depot 5 shuts after the fifteen lines.
+ * depot 5 shuts after the fifteen lines. With the word `text` it prints the rules as text instead.
  */
 #include <stdio.h>
 #include <string.h>
@@ -124,6 +124,37 @@ static void make_policy(uint8_t policy[3 * SOD_BLOCK])
     end_block(permissions);
 }
 
+static const struct {
+    unsigned kind, number;
+    const char *name;
+} names[] = {
+    {SOD_CONTEXT_TYPE, DEPOT, "depot"},
+    {SOD_CONTEXT_TYPE, JOB, "job"},
+    {SOD_ROLE, ADJUSTER, "adjuster"},
+    {SOD_ROLE, CHECKER, "checker"},
+    {SOD_ROLE, COUNTER, "counter"},
+    {SOD_OPERATION, ADJUST, "adjust"},
+    {SOD_OPERATION, CHECK, "check"},
+    {SOD_OPERATION, CLOSE, "close"},
+    {SOD_OPERATION, BEGIN_COUNT, "begin-count"},
+    {SOD_OPERATION, END_COUNT, "end-count"},
+    {SOD_TARGET, BENCH, "bench"},
+};
+
+enum { NAMES = sizeof names / sizeof *names * SOD_NAME };
+
+static void make_names(uint8_t list[NAMES])
+{
+    memset(list, 0, NAMES);
+    for (size_t i = 0; i < sizeof names / sizeof *names; i++) {
+        uint8_t *entry = list + SOD_NAME * i;
+        entry[0] = (uint8_t)names[i].kind;
+        entry[1] = (uint8_t)strlen(names[i].name);
+        put16(entry + 2, names[i].number);
+        memcpy(entry + 4, names[i].name, entry[1]);
+    }
+}
+
 /* job 0: the depot as a whole */
 static void make_context(uint8_t context[SOD_CONTEXT], unsigned depot, unsigned job)
 {
@@ -203,6 +234,22 @@ static void shut(const uint8_t policy[3 * SOD_BLOCK], uint8_t table[SOD_BLOCK])
     print_reply(ordinal, "", sod_decide(policy, 3 * SOD_BLOCK, table, SOD_BLOCK, request, sizeof request));
 }
 
+/* Prints the rules as text. Read again, with the permissions of this policy, it is this policy. */
+static int show_text(const uint8_t policy[3 * SOD_BLOCK])
+{
+    static uint8_t text[SOD_MOST_TEXT];
+    uint8_t list[NAMES], again[3 * SOD_BLOCK];
+
+    make_names(list);
+    sod_reply written = sod_write_rules(policy, 3 * SOD_BLOCK, list, sizeof list, text, sizeof text);
+    if (refused("policy", written))
+        return 1;
+    printf("%.*s\n", (int)written.first, (const char *)text);
+    sod_reply read = sod_read_rules(text, written.first, list, sizeof list, policy, 3 * SOD_BLOCK,
+                                    again, sizeof again);
+    return refused("text", read) || read.first != sizeof again || memcmp(again, policy, sizeof again) != 0;
+}
+
 int main(int argc, char **argv)
 {
     uint8_t policy[3 * SOD_BLOCK], table[SOD_BLOCK], request[SOD_REQUEST];
@@ -210,6 +257,8 @@ int main(int argc, char **argv)
     int closing = argc == 2 && strcmp(argv[1], "close") == 0;
 
     make_policy(policy);
+    if (argc == 2 && strcmp(argv[1], "text") == 0)
+        return show_text(policy);
     if (refused("policy", sod_check_policy(policy, sizeof policy)) ||
         refused("table", sod_fresh_table(policy, sizeof policy, table, sizeof table)))
         return 1;

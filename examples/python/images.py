@@ -1,4 +1,4 @@
-"""Policies and requests written, and tables read, as include/sod.h lays them out.
+"""Policies, requests and lists of names written, and tables read, as include/sod.h lays them out.
 
 A privilege is a pair (operation, target); a context is pairs (type, value), the outermost level first. What
 breaks a limit is written all the same: the engine says so, by its number.
@@ -7,6 +7,7 @@ import struct
 from collections import namedtuple
 
 FIXED, EVERY, EACH, RANGE = 1, 2, 3, 4
+CONTEXT_TYPE, CONTEXT_VALUE, ROLE, OPERATION, TARGET = 1, 2, 3, 4, 5
 Record = namedtuple("Record", "user roles privilege context rules")
 
 
@@ -56,6 +57,12 @@ def policy(rules, permissions):
         blocks.append((3, struct.pack("<H6x", len(some)) + b"".join(some)))
     return b"".join(sealed(struct.pack("<IHH", kind, i, len(blocks)) + body)
                     for i, (kind, body) in enumerate(blocks))
+
+
+def names(kinds):
+    """The list of names, from a dictionary for each kind: what number each name stands for."""
+    return b"".join(struct.pack("<BBH60s", kind, len(name), number, name.encode())
+                    for kind, numbers in kinds.items() for name, number in numbers.items())
 
 
 def context(levels):

@@ -3,6 +3,7 @@
     python3 examples/python/session.py
     python3 examples/python/session.py preview    each line behind one that tells beforehand what it will be
     python3 examples/python/session.py close      the fifteen lines; then depot 5 shuts
+    python3 examples/python/session.py text       the rules as text, and no session
 """
 import sys
 
@@ -23,6 +24,13 @@ POLICY = images.policy(
     ],
     permissions=[(ADJUSTER, ADJUST), (CHECKER, CHECK), (CHECKER, CLOSE), (COUNTER, BEGIN_COUNT)],
 )
+
+NAMES = images.names({
+    images.CONTEXT_TYPE: {"depot": DEPOT, "job": JOB},
+    images.ROLE: {"adjuster": ADJUSTER, "checker": CHECKER, "counter": COUNTER},
+    images.OPERATION: {"adjust": 1, "check": 2, "close": 4, "begin-count": 5, "end-count": 6},
+    images.TARGET: {"bench": 1},
+})
 
 
 def at(depot, job=None):
@@ -63,7 +71,16 @@ def shut(table):
     print(number + 1, answer(sod.decide, table, SESSION[12]))
 
 
+def show_text():
+    text = sod.write_rules(POLICY, NAMES)
+    print(text.decode())
+    # Read again, with the permissions of this policy, it is this policy.
+    assert sod.read_rules(text, NAMES, second=POLICY) == POLICY
+
+
 def main(*words):
+    if words == ("text",):
+        return show_text()
     table = sod.fresh_table(POLICY, blocks=1)
     for number, request in enumerate(SESSION, 1):
         if words == ("preview",):    # for the bench, while the instrument is still boxed: nothing is recorded

@@ -1,8 +1,9 @@
-"""The six calls of the engine, from Python. include/sod.h says what each promises.
+"""The eight calls of the engine, from Python. include/sod.h says what each promises.
 
 It loads target/libsod.so, which README.md builds in one command; SOD_LIBRARY in the environment names
-another. A policy, a request and a context are bytes. A table is a bytearray: the engine writes to it, and what
-cannot be written to is a TypeError before the engine is called. Where it is only checked or previewed, bytes will do.
+another. A policy, a request, a context, a text and a list of names are bytes. A table is a bytearray: the engine
+writes to it, and what cannot be written to is a TypeError before the engine is called. Where it is only checked or
+previewed, bytes will do.
 """
 import ctypes
 import os
@@ -10,6 +11,8 @@ from collections import namedtuple
 from pathlib import Path
 
 BLOCK = 512
+MOST_POLICY_BLOCKS = 64
+MOST_TEXT = 346079
 LIBRARY = Path(__file__).resolve().parents[2] / "target" / "libsod.so"
 
 
@@ -58,7 +61,9 @@ _READ = [ctypes.c_char_p, ctypes.c_size_t]                     # bytes alone fit
 _WRITE = [ctypes.POINTER(ctypes.c_uint8), ctypes.c_size_t]     # bytes do not
 for _name, _types in [("sod_check_policy", _READ), ("sod_check_table", _READ + _READ),
                       ("sod_fresh_table", _READ + _WRITE), ("sod_decide", _READ + _WRITE + _READ),
-                      ("sod_preview", _READ + _READ + _READ), ("sod_close", _READ + _WRITE + _READ)]:
+                      ("sod_preview", _READ + _READ + _READ), ("sod_close", _READ + _WRITE + _READ),
+                      ("sod_read_rules", _READ + _READ + _READ + _WRITE),
+                      ("sod_write_rules", _READ + _READ + _WRITE)]:
     _function = getattr(_library, _name)
     _function.argtypes, _function.restype = _types, Reply
 
@@ -111,3 +116,19 @@ def close(policy, table, context):
     reply = _accepted(_library.sod_close(policy, len(policy), _writable(table), len(table),
                                          context, len(context)))
     return Closed(reply.first)
+
+
+def read_rules(text, names, second):
+    """The policy of a text's rules and of the second policy's permissions; or Refused is raised."""
+    output = bytearray(BLOCK * MOST_POLICY_BLOCKS)
+    reply = _accepted(_library.sod_read_rules(text, len(text), names, len(names), second, len(second),
+                                              _writable(output), len(output)))
+    return bytes(output[:reply.first])
+
+
+def write_rules(policy, names):
+    """The rules of a policy as text, all of it in one line; or Refused is raised."""
+    output = bytearray(MOST_TEXT)
+    reply = _accepted(_library.sod_write_rules(policy, len(policy), names, len(names),
+                                               _writable(output), len(output)))
+    return bytes(output[:reply.first])

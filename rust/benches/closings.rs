@@ -141,6 +141,7 @@ impl Closings {
             policy: self.policy.clone(),
             table: write_table(sums(&self.policy), records, full.blocks),
             request: vec![],
+            names: vec![],
             expected: Reply::accept(0),
             written: None,
         }

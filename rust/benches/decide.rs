@@ -18,8 +18,8 @@
 //!
 //! Each decision is then measured as a preview, with the decision itself in the same rounds; a policy of
 //! ranges, with the same one of fixed values in the same rounds; closings, with the last step that removes
-//! the same records in the same rounds ([`closings`]); and what a last step costs for each block that it
-//! touches ([`touched`]).
+//! the same records in the same rounds ([`closings`]); what a last step costs for each block that it
+//! touches ([`touched`]); and how reading rules from a text grows with the text ([`grown`]).
 
 #[path = "../tests/support/chance.rs"]
 #[allow(dead_code)]
@@ -28,10 +28,12 @@ mod closings;
 mod earlier;
 #[path = "../tests/support/engine.rs"]
 mod engine;
+mod grown;
 #[path = "../tests/independent/mod.rs"]
 mod independent;
 #[path = "../tests/support/plain.rs"]
 mod plain;
+mod texts;
 mod touched;
 
 use chance::Chance;
@@ -39,17 +41,20 @@ use closings::Closings;
 use earlier::Earlier;
 use hastovimen::raw;
 use independent::images::*;
-use independent::{quick, Reply};
+use independent::{quick, quick_xml, Reply};
 use std::hint::black_box;
 use std::time::Instant;
+use texts::Texts;
 use touched::Touched;
 
 fn main() {
     let (typical, touched, closings) = (Typical::new(), Touched::new(), Closings::new());
+    let texts = Texts::new();
     let mut workloads = typical.workloads();
     workloads.extend(touched.workloads());
     workloads.extend(closings.workloads());
     workloads.extend(worst_workloads());
+    workloads.extend(texts.workloads());
     // `cargo bench --offline -- WORD` measures only the workloads that have the word in their name.
     let word = std::env::args().skip(1).find(|a| !a.starts_with("--"));
     if let Some(word) = &word {
@@ -60,7 +65,7 @@ fn main() {
         after: Earlier::load("SOD_AFTER"),
     });
     if let Some(Beside::Earlier { before, .. }) = &before {
-        workloads.retain(|workload| workload.call != Call::Close || before.closes());
+        workloads.retain(|workload| before.has(workload.call));
     }
     println!("Median time of one call in microseconds; the last columns are ratios.\n");
     table(&workloads, &before);
@@ -84,6 +89,10 @@ fn main() {
     if word.is_none() {
         println!("\nGrowth: a refusal by 33 on a full table, by its blocks.\n");
         table(&typical.growth(), &before);
+    }
+    if before.is_none() && word.as_ref().is_none_or(|word| "text".contains(word)) {
+        println!("\nTexts that grow: a call's time, and what each byte more than the shortest has costs.\n");
+        grown::table(&texts);
     }
 }
 
@@ -209,6 +218,8 @@ enum Call {
     Decide,
     Preview,
     Close,
+    ReadRules,
+    WriteRules,
 }
 
 /// What else is measured in the same rounds.
@@ -250,10 +261,14 @@ impl Beside {
 struct Workload {
     name: String,
     call: Call,
+    /// Of a reading, the second image.
     policy: Vec<u8>,
+    /// Of a reading or writing, the output.
     table: Vec<u8>,
-    /// A request; the context of a closing.
+    /// A request; the context of a closing; the text of a reading.
     request: Vec<u8>,
+    /// The list of a reading or writing.
+    names: Vec<u8>,
     /// What must come of it, so that the right thing is measured.
     expected: Reply,
     /// How many blocks a decision or a closing must write, where that is what is measured.
@@ -279,7 +294,7 @@ impl Workload {
         }
         let mut tables = self.copies();
         let mut times = [const { vec![] }; 4];
-        for _ in 0..ROUNDS {
+        for _ in 0..self.rounds() {
             times[0].push(match beside {
                 Some(Beside::Earlier {
                     after: Some(after), ..
@@ -304,8 +319,21 @@ impl Workload {
 
     /// As many copies of the table as stay in the caches near the processor.
     fn copies(&self) -> Vec<Vec<u8>> {
-        let copies = (256 * 1024 / (self.table.len() + 1)).clamp(1, 64);
-        vec![self.table.clone(); copies]
+        vec![self.table.clone(); self.calls()]
+    }
+
+    /// The calls of a round.
+    fn calls(&self) -> usize {
+        let lent = self.table.len() + self.request.len() + self.names.len();
+        (256 * 1024 / (lent + 1)).clamp(1, 64)
+    }
+
+    /// Fewer where a call takes milliseconds, as only long texts have it.
+    fn rounds(&self) -> usize {
+        match self.calls() {
+            1 => ROUNDS / 5,
+            _ => ROUNDS,
+        }
     }
 
     /// Microseconds of one call, when each of the tables gets one.
@@ -328,6 +356,8 @@ impl Workload {
             Call::Decide => earlier.decide(&self.policy, table, &self.request),
             Call::Preview => unreachable!("an earlier engine is not asked for it"),
             Call::Close => earlier.close(&self.policy, table, &self.request),
+            Call::ReadRules => earlier.read_rules(&self.request, &self.names, &self.policy, table),
+            Call::WriteRules => earlier.write_rules(&self.policy, &self.names, table),
         }
     }
 
@@ -343,6 +373,8 @@ impl Workload {
             Call::Decide => self.decided(table),
             Call::Preview => plain::preview(raw::preview(&self.policy, table, &self.request)),
             Call::Close => engine::close(&self.policy, table, &self.request),
+            Call::ReadRules => engine::read_rules(&self.request, &self.names, &self.policy, table),
+            Call::WriteRules => engine::write_rules(&self.policy, &self.names, table),
         }
     }
 
@@ -354,14 +386,19 @@ impl Workload {
             Call::Decide => quick::decide(&self.policy, table, &self.request),
             Call::Preview => quick::preview(&self.policy, table, &self.request),
             Call::Close => quick::close(&self.policy, table, &self.request),
+            Call::ReadRules => {
+                quick_xml::read_rules(&self.request, &self.names, &self.policy, table)
+            }
+            Call::WriteRules => quick_xml::write_rules(&self.policy, &self.names, table),
         }
     }
 
-    /// The check of every block, and the stamp where the call needs it.
+    /// The check of every block, those written included, and the stamp where the call needs it.
     fn by_sums(&self, table: &mut [u8]) -> u32 {
         let checks = block_sums(&self.policy);
         match self.call {
-            Call::CheckPolicy => checks,
+            Call::CheckPolicy | Call::WriteRules => checks,
+            Call::ReadRules => checks ^ block_sums(table),
             _ => checks ^ fold(bare_sums(&self.policy)) ^ block_sums(table),
         }
     }
@@ -570,6 +607,7 @@ impl Typical {
             policy: self.policy.clone(),
             table: table.to_vec(),
             request,
+            names: vec![],
             expected,
             written: None,
         }
@@ -779,6 +817,7 @@ impl Worst {
             policy: self.policy.clone(),
             table: self.table.clone(),
             request: request_of(7, 1, privilege(operation), &self.context),
+            names: vec![],
             expected,
             written: None,
         };

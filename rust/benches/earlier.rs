@@ -1,5 +1,6 @@
 //! An engine as a shared library, for a benchmark of two in one run.
 
+use super::Call;
 use std::ffi::{c_char, c_int, c_void, CString};
 
 extern "C" {
@@ -17,14 +18,27 @@ type CheckPolicy = unsafe extern "C" fn(*const u8, usize) -> Reply;
 type CheckTable = unsafe extern "C" fn(*const u8, usize, *const u8, usize) -> Reply;
 type FreshTable = unsafe extern "C" fn(*const u8, usize, *mut u8, usize) -> Reply;
 type Decide = unsafe extern "C" fn(*const u8, usize, *mut u8, usize, *const u8, usize) -> Reply;
+type Write = unsafe extern "C" fn(*const u8, usize, *const u8, usize, *mut u8, usize) -> Reply;
+type Read = unsafe extern "C" fn(
+    *const u8,
+    usize,
+    *const u8,
+    usize,
+    *const u8,
+    usize,
+    *mut u8,
+    usize,
+) -> Reply;
 
-/// The calls that every earlier engine has, and the closing, which it need not have.
+/// The calls that every earlier engine has, and those that it need not have.
 pub struct Earlier {
     check_policy: CheckPolicy,
     check_table: CheckTable,
     fresh_table: FreshTable,
     decide: Decide,
     close: Option<Decide>,
+    read_rules: Option<Read>,
+    write_rules: Option<Write>,
 }
 
 impl Earlier {
@@ -55,6 +69,10 @@ impl Earlier {
                 decide: std::mem::transmute::<*mut c_void, Decide>(named("sod_decide")),
                 close: find("sod_close")
                     .map(|found| std::mem::transmute::<*mut c_void, Decide>(found)),
+                read_rules: find("sod_read_rules")
+                    .map(|found| std::mem::transmute::<*mut c_void, Read>(found)),
+                write_rules: find("sod_write_rules")
+                    .map(|found| std::mem::transmute::<*mut c_void, Write>(found)),
             })
         }
     }
@@ -80,9 +98,14 @@ impl Earlier {
         unsafe { (self.decide)(policy.as_ptr(), policy.len(), bytes, len, asked, asked_len) }
     }
 
-    /// Whether it has the closing.
-    pub fn closes(&self) -> bool {
-        self.close.is_some()
+    /// Whether it has a call.
+    pub fn has(&self, call: Call) -> bool {
+        match call {
+            Call::Close => self.close.is_some(),
+            Call::ReadRules => self.read_rules.is_some(),
+            Call::WriteRules => self.write_rules.is_some(),
+            _ => true,
+        }
     }
 
     pub fn close(&self, policy: &[u8], table: &mut [u8], context: &[u8]) -> Reply {
@@ -90,5 +113,30 @@ impl Earlier {
         let (bytes, len) = (table.as_mut_ptr(), table.len());
         let (lent, lent_len) = (context.as_ptr(), context.len());
         unsafe { close(policy.as_ptr(), policy.len(), bytes, len, lent, lent_len) }
+    }
+    pub fn read_rules(&self, text: &[u8], names: &[u8], second: &[u8], output: &mut [u8]) -> Reply {
+        let read = self.read_rules.expect("it is asked only if it reads");
+        let (bytes, len) = (output.as_mut_ptr(), output.len());
+        let (list, list_len) = (names.as_ptr(), names.len());
+        let (image, image_len) = (second.as_ptr(), second.len());
+        unsafe {
+            read(
+                text.as_ptr(),
+                text.len(),
+                list,
+                list_len,
+                image,
+                image_len,
+                bytes,
+                len,
+            )
+        }
+    }
+
+    pub fn write_rules(&self, policy: &[u8], names: &[u8], output: &mut [u8]) -> Reply {
+        let write = self.write_rules.expect("it is asked only if it writes");
+        let (bytes, len) = (output.as_mut_ptr(), output.len());
+        let (list, list_len) = (names.as_ptr(), names.len());
+        unsafe { write(policy.as_ptr(), policy.len(), list, list_len, bytes, len) }
     }
 }

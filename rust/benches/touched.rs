@@ -94,6 +94,7 @@ impl Touched {
             policy: self.policy.clone(),
             table: write_table(sums(&self.policy), records, 128),
             request: vec![],
+            names: vec![],
             expected: Reply::grant(0, 0, 0),
             written: None,
         }

@@ -3,29 +3,29 @@
 use std::ops::{Deref, DerefMut};
 use std::sync::Arc;
 
-/// The bytes of a policy. Those of its own are shared by all its clones.
+/// The bytes of a policy or of a list of names. Those of its own are shared by all its clones.
 #[derive(Clone)]
-pub(crate) enum PolicyImage<'p> {
+pub(crate) enum ReadImage<'p> {
     Lent(&'p [u8]),
     Shared(Arc<[u8]>),
 }
 
-impl PolicyImage<'_> {
-    pub(crate) fn into_owned(self) -> PolicyImage<'static> {
-        PolicyImage::Shared(match self {
-            PolicyImage::Lent(bytes) => bytes.into(),
-            PolicyImage::Shared(bytes) => bytes,
+impl ReadImage<'_> {
+    pub(crate) fn into_owned(self) -> ReadImage<'static> {
+        ReadImage::Shared(match self {
+            ReadImage::Lent(bytes) => bytes.into(),
+            ReadImage::Shared(bytes) => bytes,
         })
     }
 }
 
-impl Deref for PolicyImage<'_> {
+impl Deref for ReadImage<'_> {
     type Target = [u8];
 
     fn deref(&self) -> &[u8] {
         match self {
-            PolicyImage::Lent(bytes) => bytes,
-            PolicyImage::Shared(bytes) => bytes,
+            ReadImage::Lent(bytes) => bytes,
+            ReadImage::Shared(bytes) => bytes,
         }
     }
 }

@@ -14,9 +14,12 @@
 //! * [`Table::preview`] tells what a decision would be, and gives no grant, but a [`Preview`];
 //! * [`Table::close`] removes the records of a [`Context`], such as a depot that shuts;
 //! * [`PolicyBuilder`] and [`TableBuilder`] write images;
+//! * [`Policy::from_xml`] reads a policy's rules from the published XML, and [`Policy::to_xml`] writes
+//!   them; [`Names`], made by [`NamesBuilder`], says which name stands for which number; an [`XmlError`]
+//!   has line and column, and what was expected there;
 //! * requests, policies, grants, previews and refusals can be read from the text that shows them
 //!   ([`ParseError`]);
-//! * [`raw`] has the six calls on any bytes.
+//! * [`raw`] has the eight calls on any bytes.
 //!
 //! A call allocates nothing and takes at most 24 KiB of stack, [`STACK`]. Where tables are kept in
 //! files, examples/keep.rs shows how to store them safely.
@@ -134,11 +137,16 @@ mod build_error;
 mod bytes;
 mod context;
 mod exclusion;
+mod expected;
 mod grant;
 mod image;
 mod level;
 mod limits;
 mod lint;
+mod named;
+mod names;
+mod names_builder;
+mod names_error;
 mod numbers;
 mod policy;
 mod policy_builder;
@@ -153,17 +161,26 @@ mod rule;
 mod table;
 mod table_builder;
 mod text;
+mod unwritable;
 mod words;
+mod xml;
+mod xml_error;
 
 pub use build_error::BuildError;
 pub use context::Context;
 pub use exclusion::{Exclusion, ExclusionKind, Members};
+pub use expected::Expected;
 pub use grant::{Grant, Line};
 pub use level::{Level, Levels, Mark};
 pub use limits::{
-    BLOCK, MOST_POLICY_BLOCKS, MOST_RULES, MOST_TABLE_BLOCKS, RECORDS_PER_BLOCK, STACK, VERSION,
+    BLOCK, MOST_NAMES, MOST_POLICY_BLOCKS, MOST_RULES, MOST_TABLE_BLOCKS, MOST_TEXT, NAME,
+    RECORDS_PER_BLOCK, STACK, VERSION,
 };
 pub use lint::Warning;
+pub use named::{NameKind, Named};
+pub use names::{Names, NamesBuf};
+pub use names_builder::NamesBuilder;
+pub use names_error::NamesError;
 pub use numbers::{ContextType, ContextValue, Operation, OutOfRange, Role, Target, User};
 pub use policy::{Policy, PolicyBuf};
 pub use policy_builder::PolicyBuilder;
@@ -177,3 +194,5 @@ pub use rule::Rule;
 pub use table::{Table, TableBuf};
 pub use table_builder::TableBuilder;
 pub use text::ParseError;
+pub use unwritable::Unwritable;
+pub use xml_error::{Place, XmlError};

@@ -1,7 +1,7 @@
 //! Policies that were checked.
 
 use crate::bytes::{u16_at, u32_at};
-use crate::image::PolicyImage;
+use crate::image::ReadImage;
 use crate::lint::{lint, Warning};
 use crate::{raw, Privilege, Refusal, Role, Rule, BLOCK};
 use std::borrow::Borrow;
@@ -40,7 +40,7 @@ pub(crate) const PERMISSIONS: u32 = 3;
 #[must_use = "a policy does nothing until a table is made or opened under it"]
 #[derive(Clone)]
 pub struct Policy<'p> {
-    image: PolicyImage<'p>,
+    image: ReadImage<'p>,
 }
 
 /// A policy with an image of its own, which can be kept anywhere.
@@ -65,7 +65,7 @@ impl PolicyBuf {
     /// Lets the engine check an image, and keeps it.
     pub fn own(image: Vec<u8>) -> Result<PolicyBuf, Refusal> {
         raw::check_policy(&image)?;
-        let image = PolicyImage::Shared(image.into());
+        let image = ReadImage::Shared(image.into());
         Ok(Policy { image })
     }
 }
@@ -74,7 +74,7 @@ impl<'p> Policy<'p> {
     /// Lets the engine check a lent image.
     pub fn check(image: &'p [u8]) -> Result<Policy<'p>, Refusal> {
         raw::check_policy(image)?;
-        let image = PolicyImage::Lent(image);
+        let image = ReadImage::Lent(image);
         Ok(Policy { image })
     }
 

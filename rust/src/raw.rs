@@ -1,16 +1,16 @@
-//! The six calls of the engine on bytes, as include/sod.h has them.
+//! The eight calls of the engine on bytes, as include/sod.h has them.
 //!
 //! Nothing is assumed of the bytes: whatever they are, each call answers, and a refused one alters
-//! none. A slice has a true length, and the borrow checker keeps a lent table apart from all else
-//! that is lent, so that nothing is left of what the header asks of a C caller.
+//! none. A slice has a true length, and the borrow checker keeps a lent table or output apart from all
+//! else that is lent, so that nothing is left of what the header asks of a C caller.
 //!
 //! C gets four numbers from every call, of which 0 comes first for acceptance, grant, preview and
-//! closing alike. Here what passes a check and what a closing removes is a count, what is granted is
-//! a [`Grant`] and what would be is a [`Preview`], so that none is taken for another. 21 and 22 are of
-//! the request or, from a closing, of the context, and are told apart. Nothing of the four numbers is
-//! lost: numbers and places that document 01 does not have come as [`Refusal::Other`], and a call
-//! panics on a reply of any other form, such as a recorded of 2. The engine is proved to give none of
-//! either.
+//! closing alike. Here what passes a check and what a closing removes is a count, what is written to an
+//! output is a length, what is granted is a [`Grant`] and what would be is a [`Preview`], so that none
+//! is taken for another. 21 and 22 are of the request or, from a closing, of the context, and are told
+//! apart. Nothing of the four numbers is lost: numbers and places that documents 01 and 02 do not have
+//! come as [`Refusal::Other`], and a call panics on a reply of any other form, such as a recorded of 2
+//! or a length that is more than was lent. The engine is proved to give none of either.
 //!
 //! No call allocates, and each takes at most 24 KiB of stack ([`STACK`](crate::STACK)), whatever the
 //! bytes: tests/stack.rs runs every one on a stack of that size.
@@ -30,6 +30,15 @@
 //! assert_eq!(raw::preview(&policy, &table, &[1; 28]), Err(Refusal::NotPermitted));
 //! assert_eq!(raw::close(&policy, &mut table, &[1; 28]), Err(Refusal::ContextLength));
 //! assert_eq!(raw::close(&policy, &mut table, &[1; 16]), Ok(0));
+//!
+//! let mut text = [0xEE; 100];
+//! assert_eq!(raw::write_rules(&policy, &[], &mut text), Ok(31));
+//! assert_eq!(text[..32], *b"<MSoDPolicySet></MSoDPolicySet>\xEE");
+//! let mut output = [0xEE; 1024];
+//! assert_eq!(raw::read_rules(&text[..31], &[], &policy, &mut output), Ok(512));
+//! assert_eq!(output[..512], policy[..]);
+//! let refused = raw::read_rules(&text, &[], &policy, &mut output);
+//! assert_eq!(refused, Err(Refusal::TextForm { byte: 31 }));
 //! # Ok::<(), hastovimen::BuildError>(())
 //! ```
 //!
@@ -75,6 +84,13 @@ impl Reply {
     /// How many rules, records or places were found.
     fn count(self) -> Result<u32, Refusal> {
         self.read(|reply| (reply.second == 0 && reply.third == 0).then_some(reply.first))
+    }
+
+    /// How many bytes were written at the front of an output of so many.
+    fn length(self, lent: usize) -> Result<usize, Refusal> {
+        let length = self.count()? as usize;
+        assert!(length <= lent, "no call of the engine gives {self:?}");
+        Ok(length)
     }
 
     /// How many records a closing has removed.
@@ -157,6 +173,24 @@ extern "C" {
         context: *const u8,
         context_len: usize,
     ) -> Reply;
+    fn sod_read_rules(
+        text: *const u8,
+        text_len: usize,
+        names: *const u8,
+        names_len: usize,
+        second: *const u8,
+        second_len: usize,
+        output: *mut u8,
+        output_len: usize,
+    ) -> Reply;
+    fn sod_write_rules(
+        policy: *const u8,
+        policy_len: usize,
+        names: *const u8,
+        names_len: usize,
+        output: *mut u8,
+        output_len: usize,
+    ) -> Reply;
 }
 
 /// Checks a policy: its rules, or 1 to 6.
@@ -177,7 +211,7 @@ pub fn fresh_table(policy: &[u8], table: &mut [u8]) -> Result<u32, Refusal> {
     unsafe { sod_fresh_table(policy.as_ptr(), policy.len(), bytes, len) }.count()
 }
 
-/// Decides a request and brings the table up to date: a grant, or any number.
+/// Decides a request and brings the table up to date: a grant, or 1 to 6, 11 to 15, 21, 22, 31 to 34.
 pub fn decide(policy: &[u8], table: &mut [u8], request: &[u8]) -> Result<Grant, Refusal> {
     let reply = unsafe {
         sod_decide(
@@ -192,7 +226,7 @@ pub fn decide(policy: &[u8], table: &mut [u8], request: &[u8]) -> Result<Grant, 
     reply.grant()
 }
 
-/// Previews a request: what [`decide`] would answer on a copy of the table, or any number.
+/// Previews a request: what [`decide`] would answer on a copy of the table, with the same numbers.
 pub fn preview(policy: &[u8], table: &[u8], request: &[u8]) -> Result<Preview, Refusal> {
     let reply = unsafe {
         sod_preview(
@@ -220,6 +254,44 @@ pub fn close(policy: &[u8], table: &mut [u8], context: &[u8]) -> Result<u32, Ref
         )
     };
     reply.removed()
+}
+
+/// Reads rules from a text, and writes a policy of them and of the permissions of the second one at the
+/// front of the output: its length, or 1 to 6 of the second policy, 41 to 43.
+pub fn read_rules(
+    text: &[u8],
+    names: &[u8],
+    second: &[u8],
+    output: &mut [u8],
+) -> Result<usize, Refusal> {
+    let reply = unsafe {
+        sod_read_rules(
+            text.as_ptr(),
+            text.len(),
+            names.as_ptr(),
+            names.len(),
+            second.as_ptr(),
+            second.len(),
+            output.as_mut_ptr(),
+            output.len(),
+        )
+    };
+    reply.length(output.len())
+}
+
+/// Writes the rules of a policy as text at the front of the output: its length, or 1 to 6, 42, 43.
+pub fn write_rules(policy: &[u8], names: &[u8], output: &mut [u8]) -> Result<usize, Refusal> {
+    let reply = unsafe {
+        sod_write_rules(
+            policy.as_ptr(),
+            policy.len(),
+            names.as_ptr(),
+            names.len(),
+            output.as_mut_ptr(),
+            output.len(),
+        )
+    };
+    reply.length(output.len())
 }
 
 #[cfg(test)]
@@ -253,6 +325,10 @@ mod tests {
                 assert_eq!(sod_decide(pointer, 0, pointer, 0, pointer, 0), refusal(1));
                 assert_eq!(sod_preview(pointer, 0, pointer, 0, pointer, 0), refusal(1));
                 assert_eq!(sod_close(pointer, 0, pointer, 0, pointer, 0), refusal(1));
+                let read = sod_read_rules(pointer, 0, pointer, 0, pointer, 0, pointer, 0);
+                assert_eq!(read, refusal(1));
+                let written = sod_write_rules(pointer, 0, pointer, 0, pointer, 0);
+                assert_eq!(written, refusal(1));
             }
         }
         let policy = crate::PolicyBuilder::new().build().unwrap();
@@ -271,6 +347,11 @@ mod tests {
             assert_eq!(previewed, refusal(21));
             let closed = sod_close(p, len, table.as_mut_ptr(), 512, null(), 0);
             assert_eq!(closed, refusal(21));
+            // No text stops at byte 0, no name is a good list, and no byte is too short an output.
+            let read = sod_read_rules(null(), 0, null(), 0, p, len, null_mut(), 0);
+            assert_eq!(read, refusal(41));
+            let written = sod_write_rules(p, len, null(), 0, null_mut(), 0);
+            assert_eq!(written, refusal(43));
         }
     }
 
@@ -278,6 +359,11 @@ mod tests {
     fn replies() {
         assert_eq!(reply(0, 9, 0, 0).count(), Ok(9));
         assert_eq!(reply(0, 9, 0, 0).removed(), Ok(9));
+        assert_eq!(reply(0, 9, 0, 0).length(9), Ok(9));
+        let misfit = Refusal::TextForm { byte: u32::MAX };
+        assert_eq!(reply(41, u32::MAX, 0, 0).length(9), Err(misfit));
+        assert_eq!(refusal(42).length(9), Err(Refusal::Names));
+        assert_eq!(refusal(43).length(0), Err(Refusal::TextLimit));
         let grant = Grant {
             recorded: true,
             removed: 2,
@@ -315,6 +401,8 @@ mod tests {
         for bad in [reply(0, 1, 1, 0), reply(0, 1, 0, 1), reply(1, 0, 0, 1)] {
             assert!(catch_unwind(|| bad.count()).is_err());
             assert!(catch_unwind(|| bad.removed()).is_err());
+            assert!(catch_unwind(|| bad.length(9)).is_err());
         }
+        assert!(catch_unwind(|| reply(0, 10, 0, 0).length(9)).is_err());
     }
 }

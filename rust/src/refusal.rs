@@ -102,6 +102,18 @@ pub enum Refusal {
     },
     /// 34: the table has no place for the record.
     TableFull,
+    /// 41: the text of rules has not the form.
+    TextForm {
+        /// The first byte, from 0, that no text of the form has after those before it; the length, if
+        /// the text stops early. 4294967295 stands for that byte and for all behind it.
+        byte: u32,
+    },
+    /// 42: the list of names is wrong, or lacks a name of the text or, in writing, a number of the
+    /// policy.
+    Names,
+    /// 43: a rule or the policy breaks a limit, no block is left, or the output is too short; in
+    /// writing, a level is a range.
+    TextLimit,
     /// A number that this wrapper does not know, or places that do not go with it. Only an engine
     /// newer than this crate gives one.
     #[non_exhaustive]
@@ -143,6 +155,7 @@ impl Refusal {
         let block = first;
         let (rule, exclusion) = (first, second);
         let (entry, record) = (second, second);
+        let byte = first;
         Some(match number {
             1 => Refusal::PolicyLength,
             2 => Refusal::PolicyCheck { block },
@@ -161,6 +174,9 @@ impl Refusal {
             32 => Refusal::ExclusiveRoles { rule, exclusion },
             33 => Refusal::ExclusivePrivileges { rule, exclusion },
             34 => Refusal::TableFull,
+            41 => Refusal::TextForm { byte },
+            42 => Refusal::Names,
+            43 => Refusal::TextLimit,
             _ => return None,
         })
     }
@@ -185,6 +201,9 @@ impl Refusal {
             Refusal::ExclusiveRoles { .. } => 32,
             Refusal::ExclusivePrivileges { .. } => 33,
             Refusal::TableFull => 34,
+            Refusal::TextForm { .. } => 41,
+            Refusal::Names => 42,
+            Refusal::TextLimit => 43,
             Refusal::Other { number, .. } => *number,
         }
     }
@@ -198,6 +217,7 @@ impl Refusal {
             | Refusal::TableCheck { block }
             | Refusal::TableHeader { block }
             | Refusal::TableStamp { block } => (block, 0),
+            Refusal::TextForm { byte } => (byte, 0),
             Refusal::Exclusion { block, exclusion } => (block, exclusion),
             Refusal::Permission { block, entry } => (block, entry),
             Refusal::Record { block, record } => (block, record),
@@ -211,7 +231,9 @@ impl Refusal {
             | Refusal::ContextLength
             | Refusal::ContextField
             | Refusal::NotPermitted
-            | Refusal::TableFull => (0, 0),
+            | Refusal::TableFull
+            | Refusal::Names
+            | Refusal::TextLimit => (0, 0),
         }
     }
 }

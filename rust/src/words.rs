@@ -41,6 +41,7 @@ impl fmt::Display for At<'_> {
             Refusal::ExclusiveRoles { .. } | Refusal::ExclusivePrivileges { .. } => {
                 write!(f, "rule {first}, exclusion {second}: ")
             }
+            Refusal::TextForm { .. } => write!(f, "byte {first} of the text: "),
             Refusal::Other { .. } => write!(f, "with places {first} and {second}: "),
             Refusal::PolicyLength
             | Refusal::TableLength
@@ -49,7 +50,9 @@ impl fmt::Display for At<'_> {
             | Refusal::ContextLength
             | Refusal::ContextField
             | Refusal::NotPermitted
-            | Refusal::TableFull => Ok(()),
+            | Refusal::TableFull
+            | Refusal::Names
+            | Refusal::TextLimit => Ok(()),
         }
     }
 }
@@ -88,6 +91,9 @@ fn fault(refusal: &Refusal) -> &'static str {
             "the user would have done too many exclusive privileges"
         }
         Refusal::TableFull => "the table has no place for the record",
+        Refusal::TextForm { .. } => "no text of the form goes on like this",
+        Refusal::Names => "the list of names is wrong, or lacks a name or a number",
+        Refusal::TextLimit => "a limit is broken, the output is too short, or a level is a range",
         Refusal::Other { .. } => "refused",
     }
 }
@@ -120,8 +126,8 @@ mod tests {
     #[test]
     fn numbers_places_and_words() {
         let with_two = [5, 6, 15, 32, 33];
-        let with_one = [2, 3, 4, 12, 13, 14];
-        let with_none = [1, 11, 21, 22, 31, 34];
+        let with_one = [2, 3, 4, 12, 13, 14, 41];
+        let with_none = [1, 11, 21, 22, 31, 34, 42, 43];
         let mut words = vec![];
         for (numbers, (first, second)) in [
             (&with_two[..], (7, 3)),
@@ -142,17 +148,19 @@ mod tests {
             assert_eq!(refusal.to_string().parse(), Ok(refusal));
             words.push(refusal.to_string());
         }
-        assert_eq!(words.len(), 19);
+        assert_eq!(words.len(), 22);
         words.sort();
         words.dedup();
-        assert_eq!(words.len(), 19);
+        assert_eq!(words.len(), 22);
     }
 
     /// What document 01 does not have is kept as it came, and is shown and read too.
     #[test]
     fn numbers_and_places_of_no_meaning() {
         assert_eq!(Refusal::of(0, 1, 1), None);
-        for (number, first, second) in [(7, 1, 2), (1, 0, 1), (4, 3, 1), (34, 9, 0), (99, 0, 0)] {
+        let strange = [(7, 1, 2), (1, 0, 1), (4, 3, 1), (34, 9, 0), (99, 0, 0)];
+        let of_texts = [(41, 3, 1), (42, 1, 0), (43, 0, 1), (40, 0, 0), (44, 0, 0)];
+        for (number, first, second) in strange.into_iter().chain(of_texts) {
             let refusal = Refusal::of(number, first, second).unwrap();
             assert!(matches!(refusal, Refusal::Other { .. }));
             assert_eq!(refusal.number(), number);

@@ -73,22 +73,42 @@ fn refusals() -> [(&'static str, Refusal); 19] {
     ]
 }
 
-const SIZES: [(&str, usize); 8] = [
+const OF_TEXTS: [(&str, Refusal); 3] = [
+    ("SOD_TEXT_FORM", Refusal::TextForm { byte: 0 }),
+    ("SOD_NAMES", Refusal::Names),
+    ("SOD_TEXT_LIMIT", Refusal::TextLimit),
+];
+
+const SIZES: [(&str, usize); 11] = [
     ("SOD_STACK", STACK),
     ("SOD_BLOCK", BLOCK),
     ("SOD_REQUEST", Request::LENGTH),
     ("SOD_RECORD", Record::LENGTH),
     ("SOD_CONTEXT", Context::LENGTH),
+    ("SOD_NAME", NAME),
     ("SOD_RECORDS_PER_BLOCK", RECORDS_PER_BLOCK),
     ("SOD_MOST_POLICY_BLOCKS", MOST_POLICY_BLOCKS),
     ("SOD_MOST_TABLE_BLOCKS", MOST_TABLE_BLOCKS),
+    ("SOD_MOST_NAMES", MOST_NAMES),
+    ("SOD_MOST_TEXT", MOST_TEXT),
+];
+
+const KINDS: [(&str, NameKind); 5] = [
+    ("SOD_CONTEXT_TYPE", NameKind::ContextType),
+    ("SOD_CONTEXT_VALUE", NameKind::ContextValue),
+    ("SOD_ROLE", NameKind::Role),
+    ("SOD_OPERATION", NameKind::Operation),
+    ("SOD_TARGET", NameKind::Target),
 ];
 
 #[test]
 fn numbers_and_sizes() {
-    let numbers = refusals().map(|(name, refusal)| (name, refusal.number().to_string()));
+    let refusals = refusals().into_iter().chain(OF_TEXTS);
+    let numbers = refusals.map(|(name, refusal)| (name, refusal.number().to_string()));
     let sizes = SIZES.map(|(name, size)| (name, size.to_string()));
-    let mut here: BTreeMap<&str, String> = numbers.into_iter().chain(sizes).collect();
+    let kinds = KINDS.map(|(name, kind)| (name, (kind as u8).to_string()));
+    let all = numbers.chain(sizes).chain(kinds);
+    let mut here: BTreeMap<&str, String> = all.collect();
     let header = defined();
     // A header without a version is from before there was one.
     if header.contains_key("SOD_VERSION") {
@@ -138,7 +158,7 @@ fn functions_and_parameters() {
     let (raw, _) = raw.split_once("\n}").expect("their end");
     let raw = functions(raw, "fn ");
     let header = functions(&header, "sod_reply ");
-    assert_eq!(header.len(), 6);
+    assert_eq!(header.len(), 8);
     assert_eq!(
         header.keys().collect::<Vec<_>>(),
         raw.keys().collect::<Vec<_>>()

@@ -29,30 +29,11 @@ use support::damage::{damage, move_record, restamp, telling, MOVED};
 use support::lists::{shortest, Call, List, Start, BY_DOCUMENT_01};
 use support::ranged;
 use support::repeated::Repeated;
+use support::runs::{full, number_from, Where};
 use support::world::{damaged_context, request_bytes, Asked, World};
 use support::written;
 
 const SEED: u64 = 2_026;
-
-/// So many in a release build; a tenth in a debug build, for a plain `cargo test`.
-const fn full(number: usize) -> usize {
-    if cfg!(debug_assertions) {
-        number / 10
-    } else {
-        number
-    }
-}
-
-/// Says where chance stood when a test fails.
-struct Where(String);
-
-impl Drop for Where {
-    fn drop(&mut self) {
-        if std::thread::panicking() {
-            eprintln!("it was in {}", self.0);
-        }
-    }
-}
 
 /// Runs `one` on one seed after another until so many decisions were made.
 fn until(
@@ -675,10 +656,6 @@ fn shortest_failing_lists() {
 
 // ---------------------------------------------------------------------------------------------
 // The long run
-
-fn number_from(name: &str, otherwise: u64) -> u64 {
-    std::env::var(name).map_or(otherwise, |text| text.parse().expect("a number"))
-}
 
 #[test]
 #[ignore = "takes long; see the top of this file"]

@@ -4,12 +4,14 @@
 #[path = "support/engine.rs"]
 mod engine;
 mod independent;
+#[path = "support/largest.rs"]
+mod largest;
 #[path = "support/plain.rs"]
 mod plain;
 
 use hastovimen::{raw, STACK};
 use independent::images::*;
-use independent::Reply;
+use independent::{xml, Reply};
 use std::cell::Cell;
 use std::ffi::{c_int, c_long, c_void};
 use std::ptr::null_mut;
@@ -66,10 +68,14 @@ thread_local! {
 
 struct Lent {
     call: Call,
+    /// The second image of a reading too.
     policy: Vec<u8>,
+    /// The output of a reading or a writing too.
     table: Vec<u8>,
-    /// A request; the context of a closing.
+    /// A request; the context of a closing; the text of a reading.
     request: Vec<u8>,
+    /// The list of names of a reading or a writing.
+    names: Vec<u8>,
     reply: Option<Reply>,
 }
 
@@ -81,6 +87,8 @@ enum Call {
     Decide,
     Preview,
     Close,
+    ReadRules,
+    WriteRules,
 }
 
 /// Runs on the small stack: nothing but the call.
@@ -94,18 +102,26 @@ extern "C" fn start() {
         Call::Decide => plain::grant(raw::decide(&lent.policy, &mut lent.table, &lent.request)),
         Call::Preview => plain::preview(raw::preview(&lent.policy, &lent.table, &lent.request)),
         Call::Close => engine::close(&lent.policy, &mut lent.table, &lent.request),
+        Call::ReadRules => {
+            engine::read_rules(&lent.request, &lent.names, &lent.policy, &mut lent.table)
+        }
+        Call::WriteRules => engine::write_rules(&lent.policy, &lent.names, &mut lent.table),
     });
 }
 
 /// The call's reply; the process ends where the stack does not suffice.
 fn on_small_stack(call: Call, policy: &[u8], table: &[u8], request: &[u8]) -> Reply {
-    let mut lent = Lent {
+    run_on_small_stack(Lent {
         call,
         policy: policy.to_vec(),
         table: table.to_vec(),
         request: request.to_vec(),
+        names: vec![],
         reply: None,
-    };
+    })
+}
+
+fn run_on_small_stack(mut lent: Lent) -> Reply {
     let (mut here, mut there) = (Context::new(), Context::new());
     // SAFETY: the pages are mapped, the lowest may not be touched, and the context that runs on
     // the others comes back here before anything of this frame goes.
@@ -244,5 +260,62 @@ fn closings_on_a_small_stack() {
             let reply = on_small_stack(Call::Close, &policy, &table, &context);
             assert_eq!(reply, Reply::accept(removed));
         }
+    }
+}
+
+/// A reading of this text, or a writing, with the largest policy and the longest list.
+fn text_gets(call: Call, text: &[u8], room: usize, expected: Reply) {
+    let reply = run_on_small_stack(Lent {
+        call,
+        policy: write_policy(&largest::policy()),
+        table: vec![0; room],
+        request: text.to_vec(),
+        names: largest::names(),
+        reply: None,
+    });
+    assert_eq!(reply, expected);
+}
+
+/// The text of the largest policy, read and written, and refused where all of it has been gone through.
+#[test]
+fn texts_on_a_small_stack() {
+    let policy = write_policy(&largest::policy());
+    let text = xml::writing(&policy, &largest::names(), usize::MAX).unwrap();
+    let (image, length) = (policy.len(), text.len());
+    let short = Reply::refuse(43, 0, 0);
+    text_gets(Call::ReadRules, &text, image, Reply::accept(image));
+    text_gets(Call::ReadRules, &text, image - 1, short);
+    text_gets(Call::WriteRules, &[], length, Reply::accept(length));
+    text_gets(Call::WriteRules, &[], length - 1, short);
+    let stops = Reply::refuse(41, length - 1, 0);
+    text_gets(Call::ReadRules, &text[..length - 1], image, stops);
+    text_gets(Call::ReadRules, &[], image, Reply::refuse(41, 0, 0));
+}
+
+/// Rules, levels, exclusions and members may be any in number, and so may be white space: the stack does
+/// not grow with them.
+#[test]
+fn long_texts_on_a_small_stack() {
+    let role = |number: usize| {
+        let name = format!("{}{number:04}", "n".repeat(56));
+        format!("<Role type=\"role\" value=\"{name}\"/>")
+    };
+    let exclusion = format!(
+        "<MMER ForbiddenCardinality=\"2\">{}{}</MMER>",
+        role(1),
+        role(2)
+    );
+    let rule = format!("<MSoDPolicy BusinessContext=\"\">{exclusion}</MSoDPolicy>");
+    let in_set = "<MSoDPolicySet><MSoDPolicy BusinessContext=\"";
+    for (before, part) in [
+        ("<MSoDPolicySet".into(), " "),
+        ("<MSoDPolicySet>".into(), &rule[..]),
+        (format!("{in_set}a=*"), ",a=*"),
+        (format!("{in_set}\">"), &exclusion),
+        (format!("{in_set}\">{}", &exclusion[..31]), &role(1)),
+    ] {
+        let text = format!("{before}{}", part.repeat(5_000));
+        let stops = Reply::refuse(41, text.len(), 0);
+        text_gets(Call::ReadRules, text.as_bytes(), 0, stops);
     }
 }

@@ -237,7 +237,8 @@ fn grants_previews_and_refusals() {
             try_out(&mut chance, line);
         }
     }
-    for number in [1, 2, 3, 4, 5, 6, 11, 12, 13, 14, 15, 21, 22, 31, 32, 33, 34] {
+    let numbers = [1, 2, 3, 4, 5, 6, 11, 12, 13, 14, 15, 21, 22, 31, 32, 33, 34];
+    for number in numbers.into_iter().chain([41, 42, 43]) {
         for places in ["0 0", "7 0", "31 8"] {
             let line: Line = format!("refuse {number} {places}").parse().unwrap();
             try_out(&mut chance, line);
@@ -250,6 +251,45 @@ fn grants_previews_and_refusals() {
     }
     assert!(altered.read > 1_000, "{} read", altered.read);
     assert!(altered.not_read > 1_000, "{} not read", altered.not_read);
+}
+
+/// What names and texts of rules get is shown as its text is too. None of it is read back.
+#[test]
+fn names_and_errors_of_texts() {
+    let checker = Named::from(Role::of(2));
+    let kind = checker.kind();
+    for kind in NameKind::ALL {
+        as_its_text(&kind);
+    }
+    as_its_text(&checker);
+    let name = "checker".to_owned();
+    as_its_text(&NamesError::NameTwice { kind, name });
+    as_its_text(&NamesError::NumberTwice(checker));
+    as_its_text(&NamesError::Name("a b".to_owned()));
+    let level: Level = "1=100 to 199".parse().unwrap();
+    as_its_text(&Unwritable::Range { rule: 1, level });
+    as_its_text(&Unwritable::NotListed {
+        rule: 32,
+        number: checker,
+    });
+    as_its_text(&Unwritable::Refused(Refusal::Names));
+
+    let bare = Policy::own(PolicyBuilder::new().build().unwrap()).unwrap();
+    let names = NamesBuilder::new().build().unwrap();
+    let error = Policy::from_xml("<MSoDPolicySet><", &names, &bare).unwrap_err();
+    let XmlError::Form { at, expected, .. } = &error else {
+        panic!("{error}")
+    };
+    as_its_text(at);
+    assert_eq!(expected.len(), 2);
+    for one in expected.iter().chain(&[Expected::Name, Expected::End]) {
+        as_its_text(one);
+    }
+    let (at, element) = (*at, "MMER");
+    as_its_text(&error);
+    as_its_text(&XmlError::NotListed { at, element });
+    as_its_text(&XmlError::Limit { at, element });
+    as_its_text(&XmlError::Refused(Refusal::TextLimit));
 }
 
 /// A policy's text builds the same rules and permissions again, and where the permissions were

@@ -9,9 +9,9 @@ ghost use Rattle.format.specs.Rule.{Level, goodExclusion};
 ghost use Rattle.fields.specs.Code.{privilegeOf};
 ghost use Rattle.xml.specs.Read.{Members, Draft, newMembers, exclusionOf, withMember, withExclusion};
 ghost use Rattle.drafts.specs.Draft.{exclusionBlock, draftBlock, MembersFit};
+use crate::limits::exclusion_within;
 use crate::part::counted;
 use crate::part::put_pair;
-use exclusion_check::exclusion::good_exclusion;
 use fields::field::wide;
 use fields::layout::BLOCK_BYTES;
 use fields::layout::EXCLUSION_BYTES;
@@ -78,7 +78,7 @@ pub fn end_exclusion(x: &[u8], d: &mut [u8]) -> bool
     requires { ⌜ (length (now x) ≡ blockBytes) × (length (now d) ≡ blockBytes) ⌝ }
     ensures { λ r. ⌜ ((s : Members) (ls : List Level) (dr : Draft) → now (x .entry) ≡ exclusionBlock s → MembersFit s → now (d .entry) ≡ draftBlock ls dr → (r ≡ goodExclusion (exclusionOf s)) × (r ≡ true → now (d .exit) ≡ draftBlock ls (withExclusion dr (exclusionOf s))) × (r ≡ false → now (d .exit) ≡ now (d .entry))) ⌝ }
 {
-    if !good_exclusion(x, 0) {
+    if !exclusion_within(x) {
         return false;
     }
     let n = d[EXCLUSIONS_AT];

@@ -11,6 +11,7 @@ ghost use Rattle.xml.specs.Blocks.{privilegeImage};
 ghost use Rattle.xml.specs.Read.{Draft, levelFrom, newDraft, ruleFrom, withFirst, withLast};
 ghost use Rattle.table_write.specs.Writing.{over};
 ghost use Rattle.drafts.specs.Draft.{draftBlock, ruleBlock, LevelFits, StepFits};
+use crate::limits::rule_within;
 use crate::part::put_pair;
 use fields::field::put_u32;
 use fields::layout::BLOCK_BYTES;
@@ -26,7 +27,6 @@ use fields::layout::LEVEL_VALUE_AT;
 use fields::layout::MOST_LEVELS;
 use fields::layout::RULE_KIND;
 use fields::privilege::Privilege;
-use policy_check::rule::good_rule;
 use table_write::write::zero_fill;
 
 // A rule begins, with no step, no level and no exclusion yet.
@@ -83,5 +83,5 @@ pub fn end_rule(d: &mut [u8], depth: usize) -> bool
     }
     put_u32(d, KIND_AT, RULE_KIND);
     d[DEPTH_AT] = depth as u8;
-    good_rule(d)
+    rule_within(d)
 }

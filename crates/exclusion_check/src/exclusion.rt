@@ -56,7 +56,7 @@ fn good_role(b: &[u8], e: usize, i: usize) -> bool
 }
 
 // The n members of an exclusion of roles.
-fn good_roles(b: &[u8], e: usize, n: usize) -> bool
+pub fn good_roles(b: &[u8], e: usize, n: usize) -> bool
     requires { ⌜ (length (now b) ≡ blockBytes) × ((e < mostExclusions) × ((n ≤ mostMembers) × (n ≡ byteAt (now b) (nAt + exclusionBytes * e)))) ⌝ }
     ensures { λ r. ⌜ r ≡ goodRoles (exclusionAt (now (b .entry)) e) ⌝ }
 {
@@ -68,7 +68,7 @@ fn good_roles(b: &[u8], e: usize, n: usize) -> bool
 }
 
 // The n members of an exclusion of privileges.
-fn good_privileges(b: &[u8], e: usize, n: usize) -> bool
+pub fn good_privileges(b: &[u8], e: usize, n: usize) -> bool
     requires { ⌜ (length (now b) ≡ blockBytes) × ((e < mostExclusions) × ((n ≤ mostMembers) × (n ≡ byteAt (now b) (nAt + exclusionBytes * e)))) ⌝ }
     ensures { λ r. ⌜ r ≡ goodPrivileges (exclusionAt (now (b .entry)) e) ⌝ }
 {
@@ -95,7 +95,7 @@ fn good_members(b: &[u8], e: usize, n: usize) -> bool
 }
 
 // The numbers m and n of an exclusion, and the zero byte beside them.
-fn good_size(b: &[u8], e: usize) -> bool
+pub fn good_size(b: &[u8], e: usize) -> bool
     requires { ⌜ (length (now b) ≡ blockBytes) × (e < mostExclusions) ⌝ }
     ensures { λ r. ⌜ r ≡ goodSize (exclusionAt (now (b .entry)) e) ⌝ }
 {
@@ -108,7 +108,7 @@ fn good_size(b: &[u8], e: usize) -> bool
 }
 
 // An exclusion among the rule's number. Its members are looked at only where there are at most eight.
-pub fn good_exclusion(b: &[u8], e: usize) -> bool
+fn good_exclusion(b: &[u8], e: usize) -> bool
     requires { ⌜ (length (now b) ≡ blockBytes) × (e < mostExclusions) ⌝ }
     ensures { λ r. ⌜ r ≡ goodExclusion (exclusionAt (now (b .entry)) e) ⌝ }
 {

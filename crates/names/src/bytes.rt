@@ -15,8 +15,8 @@ pub fn name_byte(b: u8) -> bool
     is_of(ByteKind::Name, b)
 }
 
-// The n bytes from a byte on, of one slice and of another, are the same.
-pub fn same_bytes(a: &[u8], at: usize, b: &[u8], from: usize, n: usize) -> bool
+// The n bytes from a byte on, of one slice and of another, are the same: all of them are looked at.
+fn all_same(a: &[u8], at: usize, b: &[u8], from: usize, n: usize) -> bool
     requires { ⌜ (at + n ≤ length (now a)) × (from + n ≤ length (now b)) ⌝ }
     ensures { λ r. ⌜ r ≡ sameList (part (now (a .entry)) at n) (part (now (b .entry)) from n) ⌝ }
 {
@@ -25,4 +25,19 @@ pub fn same_bytes(a: &[u8], at: usize, b: &[u8], from: usize, n: usize) -> bool
         same = same & (a[at + i] == b[from + i]);
     }
     same
+}
+
+// The same, with a look at the last byte first: names of one length mostly differ there, as numbered ones do.
+pub fn same_bytes(a: &[u8], at: usize, b: &[u8], from: usize, n: usize) -> bool
+    requires { ⌜ (at + n ≤ length (now a)) × (from + n ≤ length (now b)) ⌝ }
+    ensures { λ r. ⌜ r ≡ sameList (part (now (a .entry)) at n) (part (now (b .entry)) from n) ⌝ }
+{
+    if n == 0 {
+        return true;
+    }
+    let last = n - 1;
+    if a[at + last] != b[from + last] {
+        return false;
+    }
+    all_same(a, at, b, from, n)
 }

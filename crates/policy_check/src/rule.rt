@@ -67,7 +67,7 @@ fn good_level(b: &[u8], i: usize) -> bool
 }
 
 // A level of a rule of some depth: used, or past the depth and all zero.
-fn good_level_of(b: &[u8], depth: u32, i: usize) -> bool
+pub fn good_level_of(b: &[u8], depth: u32, i: usize) -> bool
     requires { ⌜ (length (now b) ≡ blockBytes) × (i < mostLevels) ⌝ }
     ensures { λ r. ⌜ r ≡ goodLevelOf depth (levelAt (now (b .entry))) i ⌝ }
 {
@@ -92,7 +92,7 @@ fn good_levels(b: &[u8]) -> bool
 }
 
 // A step: set and full, or neither.
-fn good_step(b: &[u8], flag: usize, at: usize) -> bool
+pub fn good_step(b: &[u8], flag: usize, at: usize) -> bool
     requires { ⌜ (flag < length (now b)) × (at + 3 < length (now b)) ⌝ }
     ensures { λ r. ⌜ r ≡ goodStep (stepAt (now (b .entry)) flag at) ⌝ }
 {
@@ -112,7 +112,7 @@ fn good_steps(b: &[u8]) -> bool
 }
 
 // Depth, number of exclusions, levels and steps.
-pub fn good_rule(b: &[u8]) -> bool
+fn good_rule(b: &[u8]) -> bool
     requires { ⌜ length (now b) ≡ blockBytes ⌝ }
     ensures { λ r. ⌜ r ≡ goodRule (ruleAt (now (b .entry))) ⌝ }
 {

@@ -1,12 +1,17 @@
-// The boundary for other languages: the six entry points as C functions, and one struct by value. include/sod.h says what a caller owes.
+// The boundary for other languages: the eight entry points as C functions, and one struct by value. include/sod.h says what a caller owes.
 ghost use mathlib.Core.Path.{_≡_};
 ghost use Rattle.format.specs.Calls.{checkPolicy, checkTable, makeTable};
 ghost use Rattle.judge.specs.Close.{close as closeOf};
 ghost use Rattle.judge.specs.Decide.{decide as decideOf};
 ghost use Rattle.judge.specs.Preview.{preview as previewOf};
+ghost use Rattle.xml_calls.specs.Calls.{readRules, writeRules};
 ghost use Rattle.engine.specs.Code.{answerOf};
 ghost use Rattle.engine.specs.Numbers.{four};
-ghost use Rattle.sod.specs.Code.{fourOf, left};
+ghost use Rattle.conversion.specs.Code.{answerOf as convertedOf};
+ghost use Rattle.sod.specs.Code.{narrow, narrowed, fourOf, left};
+use conversion::reading::read_rules;
+use conversion::reply::Converted;
+use conversion::writing::write_rules;
 use engine::checks::check_policy;
 use engine::checks::check_table;
 use engine::checks::make_table;
@@ -90,4 +95,58 @@ pub extern "C" fn sod_close(policy: &[u8], table: &mut [u8], context: &[u8]) -> 
     ensures { λ r. ⌜ left (fourOf r) (now (table .exit)) ≡ left (four (closeOf (now (policy .entry)) (now (table .entry)) (now (context .entry)) .answer)) (closeOf (now (policy .entry)) (now (table .entry)) (now (context .entry)) .state) ⌝ }
 {
     reply_of(close(policy, table, context))
+}
+
+// ---- rules as text
+
+// A length, or a byte of a text: the highest number where C's 32 bits are too few.
+fn in_32_bits(n: usize) -> u32
+    ensures { λ r. ⌜ r ≡ narrow n ⌝ }
+{
+    if n > 4294967295 {
+        return 4294967295;
+    }
+    n as u32
+}
+
+// What a conversion answers, as C has it.
+fn reply_in(number: u32, first: usize, second: u32) -> SodReply
+    ensures { λ r. ⌜ fourOf r ≡ narrowed (record { number = number; first = first; second = second; third = 0 }) ⌝ }
+{
+    SodReply {
+        number,
+        first: in_32_bits(first),
+        second,
+        third: 0,
+    }
+}
+
+// The same for each of its cases.
+pub fn converted_of(answer: Converted) -> SodReply
+    ensures { λ r. ⌜ fourOf r ≡ narrowed (four (convertedOf answer)) ⌝ }
+{
+    match answer {
+        Converted::Refused(r) => reply_in(r.number, r.first as usize, r.second),
+        Converted::Misfit(at) => reply_in(41, at, 0),
+        Converted::Length(n) => reply_in(0, n, 0),
+    }
+}
+
+#[no_mangle]
+pub extern "C" fn sod_read_rules(
+    text: &[u8],
+    names: &[u8],
+    second: &[u8],
+    output: &mut [u8],
+) -> SodReply
+    ensures { λ r. ⌜ left (fourOf r) (now (output .exit)) ≡ left (narrowed (four (readRules (now (text .entry)) (now (names .entry)) (now (second .entry)) (now (output .entry)) .answer))) (readRules (now (text .entry)) (now (names .entry)) (now (second .entry)) (now (output .entry)) .state) ⌝ }
+{
+    converted_of(read_rules(text, names, second, output))
+}
+
+#[no_mangle]
+pub extern "C" fn sod_write_rules(policy: &[u8], names: &[u8], output: &mut [u8]) -> SodReply
+    ensures { λ r. ⌜ left (fourOf r) (now (output .exit)) ≡ left (narrowed (four (writeRules (now (policy .entry)) (now (names .entry)) (now (output .entry)) .answer))) (writeRules (now (policy .entry)) (now (names .entry)) (now (output .entry)) .state) ⌝ }
+{
+    converted_of(write_rules(policy, names, output))
 }

@@ -9,15 +9,21 @@
 //! * [`judge`] is the judgement in the paper's words over what was read: slow, easy to follow;
 //! * [`register`] is the full register, which forgets no grant and no closing and never sees a table;
 //! * [`quick`] judges on the bytes themselves, in place and without an allocation. It is the one
-//!   that the benchmark sets beside the engine, and it uses none of the three above.
+//!   that the benchmark sets beside the engine, and it uses none of the three above;
+//! * [`xml`] reads and writes policies as text, in the paper's words, over [`form`], which has their
+//!   form as a table and says how far a text has it; [`quick_xml`] does both on the bytes themselves
+//!   and uses neither.
 
 // Each test and the benchmark take in this module whole and use a part of it.
 #![allow(dead_code)]
 
+pub mod form;
 pub mod images;
 pub mod judge;
 pub mod quick;
+pub mod quick_xml;
 pub mod register;
+pub mod xml;
 
 /// What a call returns: the same four numbers as the C interface's `sod_reply`.
 #[derive(Clone, Copy, PartialEq, Eq, Debug)]
@@ -29,7 +35,8 @@ pub struct Reply {
 }
 
 impl Reply {
-    /// A check was passed: `count` rules, records or places; or a closing removed so many records.
+    /// A check was passed: `count` rules, records or places; or a closing removed so many records; or
+    /// so many bytes were read from a text, or written as one.
     pub fn accept(count: usize) -> Reply {
         Reply::of(0, count, 0, 0)
     }

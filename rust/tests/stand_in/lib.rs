@@ -1,11 +1,11 @@
-//! The six C functions of include/sod.h from the independent judge, so that wrapper, examples and
+//! The eight C functions of include/sod.h from the independent judge, so that wrapper, examples and
 //! tests can be tried where the engine's archive is not at hand. That judge is tested, not proved.
 
 #[path = "../independent/mod.rs"]
 mod independent;
 mod lent;
 
-use independent::quick;
+use independent::{quick, quick_xml};
 use lent::{lent, lent_mut};
 
 /// `sod_reply` of include/sod.h.
@@ -100,6 +100,43 @@ unsafe extern "C" fn sod_close(
         lent(policy, policy_len),
         lent_mut(table, table_len),
         lent(context, context_len),
+    )
+    .into()
+}
+
+#[no_mangle]
+unsafe extern "C" fn sod_read_rules(
+    text: *const u8,
+    text_len: usize,
+    names: *const u8,
+    names_len: usize,
+    second: *const u8,
+    second_len: usize,
+    output: *mut u8,
+    output_len: usize,
+) -> Reply {
+    quick_xml::read_rules(
+        lent(text, text_len),
+        lent(names, names_len),
+        lent(second, second_len),
+        lent_mut(output, output_len),
+    )
+    .into()
+}
+
+#[no_mangle]
+unsafe extern "C" fn sod_write_rules(
+    policy: *const u8,
+    policy_len: usize,
+    names: *const u8,
+    names_len: usize,
+    output: *mut u8,
+    output_len: usize,
+) -> Reply {
+    quick_xml::write_rules(
+        lent(policy, policy_len),
+        lent(names, names_len),
+        lent_mut(output, output_len),
     )
     .into()
 }

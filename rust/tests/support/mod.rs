@@ -1,5 +1,5 @@
-//! What the tests have in common: numbers by chance, worlds to try, lent memory, the comparing, and
-//! lists that are played through it.
+//! What the tests have in common: numbers by chance, worlds and texts to try, lent memory, the
+//! comparing, and lists that are played through it.
 
 // Each test takes in this module whole and uses a part of it.
 #![allow(dead_code)]
@@ -11,11 +11,16 @@ pub mod compare;
 pub mod damage;
 pub mod engine;
 pub mod guarded;
+pub mod largest;
 pub mod lent;
 pub mod lists;
+pub mod named;
 pub mod plain;
 pub mod ranged;
 pub mod repeated;
+pub mod runs;
+pub mod spelled;
+pub mod texts;
 pub mod world;
 pub mod wrapped;
 pub mod written;

@@ -25,16 +25,16 @@ asked s e fits = ap (λ (l : List ℕ). goodExclusion (exclusionAt l 0)) e ∙ r
 
 -- past the check, the exclusion is good
 passed : (c : tie.Else1) (s : Members) → c .before .before .before .before .args .x .now ≡ exclusionBlock s → MembersFit s → true ≡ goodExclusion (exclusionOf s)
-passed c s e fits = sym (not-false (c .before .good-exclusion .result) (c .if1 .left)) ∙ c .before .good-exclusion .ensures ∙ asked s e fits
+passed c s e fits = sym (not-false (c .before .exclusion-within .result) (c .if1 .left)) ∙ c .before .exclusion-within .ensures ∙ asked s e fits
 
-good-exclusion-requires : tie.Need-good-exclusion-requires
-good-exclusion-requires c κs = search needs
+exclusion-within-requires : tie.Need-exclusion-within-requires
+exclusion-within-requires c κs = search needs
 
 returns : tie.Need-returns
 returns c =
     let c₀ = c .before in
     λ s ls d ex fits ed. (
-      sym (not-true (c₀ .good-exclusion .result) (c .if1 .taken)) ∙ c₀ .good-exclusion .ensures ∙ asked s ex fits,
+      sym (not-true (c₀ .exclusion-within .result) (c .if1 .taken)) ∙ c₀ .exclusion-within .ensures ∙ asked s ex fits,
       λ t. absurd (false≢true t),
       λ t. refl,
     )
@@ -115,7 +115,7 @@ pub end-exclusion-spec : {M : Type 1} → statement M
 end-exclusion-spec =
     tie.close
     (tie.spec
-    good-exclusion-requires
+    exclusion-within-requires
     returns
     slice-read-n
     counted-requires

@@ -27,8 +27,8 @@ cast-d c = search needs
 slice-write-d : tie.Need-slice-write-d
 slice-write-d c = search needs
 
-good-rule-requires : tie.Need-good-rule-requires
-good-rule-requires c κs = simp length-set (omega arith)
+rule-within-requires : tie.Need-rule-within-requires
+rule-within-requires c κs = simp length-set (omega arith)
 
 same-length : tie.Need-same-length
 same-length c = search needs
@@ -41,7 +41,7 @@ returns-2 c =
     let block : set (c₀ .put-u32 .last .0) 8 (a .depth) ≡ closed ls d =
     ap (λ (b : List ℕ). set b 8 (a .depth)) (c₀ .put-u32 .ensures ∙ ap (λ (b : List ℕ). sets b 0 (bytes4 1)) e)
     ∙ ap (λ (k : ℕ). set (sets (draftBlock ls d) 0 (bytes4 1)) 8 k) (sym n) in
-    let good = c .good-rule .ensures ∙ ap (λ (b : List ℕ). goodRule (ruleAt b)) block ∙ read-good ls d fits first last in
+    let good = c .rule-within .ensures ∙ ap (λ (b : List ℕ). goodRule (ruleAt b)) block ∙ read-good ls d fits first last in
     (good, λ t. block ∙ good-image ls d (sym good ∙ t))
 
 pub end-rule-spec : {M : Type 1} → statement M
@@ -52,6 +52,6 @@ end-rule-spec =
     put-u32-requires
     cast-d
     slice-write-d
-    good-rule-requires
+    rule-within-requires
     same-length
     returns-2)

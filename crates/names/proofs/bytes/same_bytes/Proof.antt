@@ -1,65 +1,51 @@
--- `crate::bytes::same_bytes` meets its contract: the flag is the test over the bytes passed.
+-- `crate::bytes::same_bytes` meets its contract: one byte that differs is enough.
 -- Assumes nothing.
-use Prim.Native.Nat.{_-_, _≤_}
-use native.Mathlib.Numerals.{add-one}
+use Prim.Native.Nat.{_-_}
 use native.Mathlib.Omega.{arith}
-use mathlib.Core.Path.{_≡_, sym, _∙_}
-use Rattle.words.specs.Lists.{allBelow}
-use Rattle.names.proofs.SameParts.{sameAt, same-parts}
+use Rattle.names.proofs.SameParts.{no-bytes, other-byte}
 use borrow.Author.Needs.{needs}
 use Rattle.names.proofs.bytes.same_bytes.Statement.{statement}
 use Rattle.names.proofs.bytes.same_bytes.Tie as tie
 
-abbrev Inv-loop : tie.InvT-loop
-Inv-loop a at b from n same₀ i₀ same i = (i ≤ n) × (same ≡ allBelow i (sameAt a at b from))
+returns : tie.Need-returns
+returns c = let a = c .before .before .before .args in no-bytes (a .a .now) (a .b .now) (a .at) (a .from) (a .n) (c .if1 .taken)
 
-abbrev μ-loop : tie.MeasureT-loop
-μ-loop a at b from n same₀ i₀ same i = n - i
+sub-last : tie.Need-sub-last
+sub-last c = search needs
 
-loop-holds : tie.Need-loop-holds Inv-loop μ-loop
-unfolding allBelow
-loop-holds c = search needs
+add-if2 : tie.Need-add-if2
+add-if2 c = search needs
 
-add-same : tie.Need-add-same Inv-loop μ-loop
-add-same c = search needs
+shared-slice-read-if2 : tie.Need-shared-slice-read-if2
+shared-slice-read-if2 c = search needs
 
-shared-slice-read-same : tie.Need-shared-slice-read-same Inv-loop μ-loop
-shared-slice-read-same c = search needs
+add-if2-2 : tie.Need-add-if2-2
+add-if2-2 c = search needs
 
-add-same-2 : tie.Need-add-same-2 Inv-loop μ-loop
-add-same-2 c = search needs
+shared-slice-read-if2-2 : tie.Need-shared-slice-read-if2-2
+shared-slice-read-if2-2 c = search needs
 
-shared-slice-read-same-2 : tie.Need-shared-slice-read-same-2 Inv-loop μ-loop
-shared-slice-read-same-2 c = search needs
+returns-2 : tie.Need-returns-2
+returns-2 c =
+    let a = c .before .before .before .before .before .before .args in
+    other-byte (a .a .now) (a .b .now) (a .at) (a .from) (a .n) (omega arith) (omega arith) (a .n - 1) (omega arith) (c .if2 .taken)
 
-add-i : tie.Need-add-i Inv-loop μ-loop
-add-i c = search needs
+all-same-requires : tie.Need-all-same-requires
+all-same-requires c κs = search needs
 
-loop-less : tie.Need-loop-less Inv-loop μ-loop
-loop-less c = search needs
-
-loop-again : tie.Need-loop-again Inv-loop μ-loop
-unfolding allBelow
-loop-again c = (omega arith, rw (add-one (c .before .before .before .loop .i)) (cc))
-
-returns : tie.Need-returns Inv-loop μ-loop
-returns c =
-    let a = c .before .before .args in
-    let e : c .before .loop .i ≡ a .n = omega arith in
-    rw e at (c .before .loop .inv .1) ∙ sym (same-parts (a .a .now) (a .b .now) (a .at) (a .from) (a .n) (omega arith) (omega arith))
+returns-3 : tie.Need-returns-3
+returns-3 c = c .all-same .ensures
 
 pub same-bytes-spec : {M : Type 1} → statement M
 same-bytes-spec =
     tie.close
     (tie.spec
-    Inv-loop
-    μ-loop
-    loop-holds
-    add-same
-    shared-slice-read-same
-    add-same-2
-    shared-slice-read-same-2
-    add-i
-    loop-less
-    loop-again
-    returns)
+    returns
+    sub-last
+    add-if2
+    shared-slice-read-if2
+    add-if2-2
+    shared-slice-read-if2-2
+    returns-2
+    all-same-requires
+    returns-3)
