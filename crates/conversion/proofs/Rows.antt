@@ -14,7 +14,7 @@ use Rattle.xml.specs.Names.{goodNames, namesFault}
 use Rattle.xml_calls.specs.Calls.{resulting, readFault, readImage, readRules, writeFault, writeRules}
 use Rattle.text_write.specs.Wrote.{writing}
 use Rattle.text_write.proofs.Whole.{writing-is}
-use Rattle.conversion.specs.Code.{outcome}
+use Rattle.answers.specs.Code.{outcome}
 
 -- an answer under another name
 answered : {a b : Answer} (s : List ℕ) {o : Outcome (List ℕ)} → a ≡ b → outcome b s ≡ o → outcome a s ≡ o

@@ -4,10 +4,10 @@ ghost use mathlib.Core.Path.{_≡_};
 ghost use mathlib.Core.Option.{none};
 ghost use Rattle.format.specs.Policy.{policyFault};
 ghost use Rattle.xml_calls.specs.Calls.{readRules};
-ghost use Rattle.conversion.specs.Code.{answerOf, outcome};
-use crate::reply::Converted;
+ghost use Rattle.answers.specs.Code.{convertedOf, outcome};
 use crate::reply::of_read;
 use crate::reply::refused;
+use answers::reply::Converted;
 use format::answer::Fault;
 use names::good::good_names;
 use policy_check::policy::policy_fault;
@@ -16,7 +16,7 @@ use text_read::read::read_text;
 
 // Reads the rules of a text. The image is at the front of the output; a refusal leaves every byte.
 pub fn read_rules(text: &[u8], names: &[u8], second: &[u8], output: &mut [u8]) -> Converted
-    ensures { λ r. ⌜ outcome (answerOf r) (now (output .exit)) ≡ readRules (now (text .entry)) (now (names .entry)) (now (second .entry)) (now (output .entry)) ⌝ }
+    ensures { λ r. ⌜ outcome (convertedOf r) (now (output .exit)) ≡ readRules (now (text .entry)) (now (names .entry)) (now (second .entry)) (now (output .entry)) ⌝ }
 {
     let fault = policy_fault(second);
     match fault {
@@ -28,7 +28,7 @@ pub fn read_rules(text: &[u8], names: &[u8], second: &[u8], output: &mut [u8]) -
 // The same beside an image that has passed as a policy.
 fn read_beside(text: &[u8], names: &[u8], second: &[u8], output: &mut [u8]) -> Converted
     requires { ⌜ policyFault (now second) ≡ none ⌝ }
-    ensures { λ r. ⌜ outcome (answerOf r) (now (output .exit)) ≡ readRules (now (text .entry)) (now (names .entry)) (now (second .entry)) (now (output .entry)) ⌝ }
+    ensures { λ r. ⌜ outcome (convertedOf r) (now (output .exit)) ≡ readRules (now (text .entry)) (now (names .entry)) (now (second .entry)) (now (output .entry)) ⌝ }
 {
     if !good_names(names) {
         return refused(42);

@@ -3,21 +3,15 @@ ghost use mathlib.Core.Path.{_≡_};
 ghost use Rattle.format.specs.Answer.{refusal, refuse};
 ghost use Rattle.text_read.specs.Code.{readOf};
 ghost use Rattle.text_write.specs.Wrote.{answerOf as wroteOf};
-ghost use Rattle.conversion.specs.Code.{answerOf};
+ghost use Rattle.answers.specs.Code.{convertedOf};
+use answers::reply::Converted;
 use format::answer::Refusal;
 use text_read::read::Read;
 use text_write::text::Wrote;
 
-// A refusal by number and places; the first byte that no text of the form has, which may need more than 32 bits; or the length of what was written.
-pub enum Converted {
-    Refused(Refusal),
-    Misfit(usize),
-    Length(usize),
-}
-
 // A refusal that comes with no place.
 pub fn refused(number: u32) -> Converted
-    ensures { λ r. ⌜ answerOf r ≡ refuse (refusal number 0 0) ⌝ }
+    ensures { λ r. ⌜ convertedOf r ≡ refuse (refusal number 0 0) ⌝ }
 {
     Converted::Refused(Refusal {
         number,
@@ -28,7 +22,7 @@ pub fn refused(number: u32) -> Converted
 
 // What reading a text has come to.
 pub fn of_read(read: Read) -> Converted
-    ensures { λ r. ⌜ answerOf r ≡ readOf read ⌝ }
+    ensures { λ r. ⌜ convertedOf r ≡ readOf read ⌝ }
 {
     match read {
         Read::Refused(number) => refused(number),
@@ -39,7 +33,7 @@ pub fn of_read(read: Read) -> Converted
 
 // What writing one has come to.
 pub fn of_wrote(wrote: Wrote) -> Converted
-    ensures { λ r. ⌜ answerOf r ≡ wroteOf wrote ⌝ }
+    ensures { λ r. ⌜ convertedOf r ≡ wroteOf wrote ⌝ }
 {
     match wrote {
         Wrote::Refused(number) => refused(number),

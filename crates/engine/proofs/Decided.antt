@@ -17,7 +17,7 @@ use Rattle.format.specs.Table.{Record, tableFault, tableImage, recordsOf}
 use Rattle.judge.specs.NewTable.{judgeFault, judge, grantOf, openIn, pastIn, tableAfter}
 use Rattle.judge.specs.Verdict.{verdict}
 use Rattle.judge.specs.Decide.{decideFault, decide}
-use Rattle.engine.proofs.Rows.{first-some, policy-row, table-row, next-row, refused}
+use Rattle.format_laws.proofs.Rows.{first-some, policy-row, table-row, next-row, refused}
 
 module _ (policy table request : List ℕ) where
   refuses : (r : Refusal) → decideFault policy table request ≡ some r → record { answer = refuse r; state = table } ≡ decide policy table request

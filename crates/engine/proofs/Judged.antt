@@ -25,7 +25,7 @@ use Rattle.verdict.specs.declared.verdicts.Verdict.{Verdict}
 use Rattle.verdict.specs.Code.{VerdictIs}
 use Rattle.update.specs.Updating.{updateOf}
 use Rattle.update.proofs.Standing.{Standing}
-use Rattle.engine.proofs.Rows.{first-length}
+use Rattle.format_laws.proofs.Rows.{first-length}
 use Rattle.engine.proofs.Decided.{by-size, granted}
 
 pub request-length : (q : List ℕ) → requestFault q ≡ none → length q ≡ requestBytes

@@ -14,7 +14,7 @@ use Rattle.update.specs.Updating.{Judged, updateOf}
 use Rattle.engine.specs.declared.examining.Pass.{Pass}
 use Rattle.engine.specs.declared.examining.Examined.{Examined}
 use Rattle.engine.specs.declared.examining.Examined.the-variants.{Refused, Passed}
-use Rattle.engine.specs.Code.{outcome}
+use Rattle.answers.specs.Code.{outcome}
 
 -- a request that has passed: steps 4 and 5 have what they need, and the decision is what they say
 pub record PassIs (policy table request : List ℕ) (p : Pass) : Type 0 where

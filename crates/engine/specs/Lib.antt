@@ -1,3 +1,1 @@
-pub mod Code
-pub mod Numbers
 pub mod Examined

@@ -3,19 +3,14 @@ ghost use mathlib.Core.Path.{_≡_};
 ghost use Rattle.judge.specs.Decide.{decide as decideOf};
 ghost use Rattle.judge.specs.Preview.{preview as previewOf};
 ghost use Rattle.judge.specs.Written.{decidedBlocks};
-ghost use Rattle.engine.specs.Code.{answerOf, outcome};
+ghost use Rattle.answers.specs.Code.{answerOf, outcome};
 use crate::examining::Examined;
 use crate::examining::examine;
-use crate::reply::Reply;
 use crate::reply::reply_of;
+use answers::reply::Counted;
+use answers::reply::Reply;
 use update::foreseeing::foresee;
 use update::grant::update;
-
-// What a decision or a closing answers, and how many blocks of the table it wrote.
-pub struct Counted {
-    pub reply: Reply,
-    pub written: usize,
-}
 
 // Decides one request, and counts the blocks that it writes: just those whose records differ.
 pub fn decide_counted(policy: &[u8], table: &mut [u8], request: &[u8]) -> Counted

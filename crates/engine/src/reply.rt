@@ -1,17 +1,10 @@
-// What a call answers.
+// What steps 4 and 5 answer, as a call does.
 ghost use mathlib.Core.Path.{_≡_};
 ghost use Rattle.update.specs.Updating.{answerOf as updatedOf};
-ghost use Rattle.engine.specs.Code.{answerOf};
-use format::answer::Grant;
+ghost use Rattle.answers.specs.Code.{answerOf};
+use answers::reply::Reply;
 use format::answer::Refusal;
 use update::grant::Updated;
-
-// Acceptance with a policy's rules, a table's records, a fresh table's places or the records that a closing removed; a grant; or a refusal.
-pub enum Reply {
-    Accepted(u32),
-    Granted(Grant),
-    Refused(Refusal),
-}
 
 // What steps 4 and 5 answer, as a reply.
 pub fn reply_of(updated: Updated) -> Reply

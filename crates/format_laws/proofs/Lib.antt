@@ -7,3 +7,4 @@ pub mod Accepted
 pub mod AcceptedPolicy
 pub mod BlockRecords
 pub mod Altered
+pub mod Rows

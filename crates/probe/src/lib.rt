@@ -3,7 +3,7 @@ ghost use mathlib.Core.Path.{_≡_};
 ghost use Rattle.judge.specs.Close.{close as closeOf};
 ghost use Rattle.judge.specs.Decide.{decide as decideOf};
 ghost use Rattle.judge.specs.Written.{decidedBlocks, closedBlocks};
-use engine::closing::close_counted;
+use closing::calls::close_counted;
 use engine::deciding::decide_counted;
 
 #[no_mangle]

@@ -14,8 +14,8 @@ use Rattle.judge.specs.Decide.{decide}
 use Rattle.judge.specs.Close.{close}
 use Rattle.register.specs.Calls.{Call, callStep}
 use Rattle.register.specs.Demand3.{answers, after}
-use Rattle.engine.specs.Code.{answerOf}
-use Rattle.engine.specs.declared.reply.Reply.{Reply}
+use Rattle.answers.specs.Code.{answerOf}
+use Rattle.answers.specs.declared.reply.Reply.{Reply}
 use Rattle.session.specs.Session.{callOf, cut, fourNumbers, written}
 
 -- ---- a call's bytes

@@ -15,7 +15,7 @@ use Rattle.format.specs.Policy.{policyOf}
 use Rattle.register.specs.Image.{registerImage}
 use Rattle.register.specs.Calls.{Call, deciding, closing, registerCall}
 use Rattle.register.specs.Demand3.{answers, after, NobodyEver}
-use Rattle.engine.specs.Numbers.{four}
+use Rattle.answers.specs.Numbers.{four}
 
 -- a call of a kind: 0 for a decision, any other number for a closing
 unfoldable pub callOf : ℕ → List ℕ → Call

@@ -6,12 +6,12 @@ ghost use lib.ListN.{length};
 ghost use lib.Seq.{sets};
 ghost use Rattle.register.specs.Calls.{callStep};
 ghost use Rattle.register.specs.Demand3.{answers as answersOf, after};
-ghost use Rattle.engine.specs.Code.{answerOf, outcome};
+ghost use Rattle.answers.specs.Code.{answerOf, outcome};
 ghost use Rattle.session.specs.Session.{callOf, cut, fourNumbers, written, Ran};
-use engine::checks::make_table;
-use engine::closing::close;
+use answers::reply::Reply;
+use checks::calls::make_table;
+use closing::calls::close;
 use engine::deciding::decide;
-use engine::reply::Reply;
 
 // Where a piece of n bytes ends that begins at a byte of these many.
 fn end_of(bytes: usize, at: usize, n: usize) -> usize

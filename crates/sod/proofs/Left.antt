@@ -4,8 +4,8 @@ use Prim.Native.Nat.{ℕ}
 use mathlib.Core.Path.{_≡_, ap, _∙_}
 use mathlib.Core.List.{List}
 use Rattle.format.specs.Answer.{Answer, Outcome}
-use Rattle.engine.specs.Numbers.{Four, four}
-use Rattle.sod.specs.Code.{Left, left, narrowed}
+use Rattle.answers.specs.Numbers.{Four, four, narrowed}
+use Rattle.sod.specs.Code.{Left, left}
 
 pub left-is :
     (f : Four) (a : Answer) (t : List ℕ) (o : Outcome (List ℕ)) → f ≡ four a → record { answer = a; state = t } ≡ o

@@ -9,9 +9,9 @@ use Rattle.format_laws.proofs.Altered.{blocks-none}
 use Rattle.judge.specs.Written.{decidedBlocks}
 use Rattle.table_write.proofs.SliceBytes.{slice-bytes}
 use Rattle.update.proofs.Standing.{standing}
-use Rattle.engine.specs.Code.{outcome}
+use Rattle.answers.specs.Code.{outcome}
 use Rattle.engine.specs.Examined.{ExaminedIs}
-use Rattle.engine.proofs.Rows.{counted}
+use Rattle.format_laws.proofs.Rows.{counted}
 use Rattle.engine.proofs.deciding.decide_counted.Statement.{statement}
 use Rattle.engine.proofs.deciding.decide_counted.Tie as tie
 

@@ -3,7 +3,7 @@
 use Prim.Native.Nat.{ℕ}
 use mathlib.Core.Path.{_≡_, ap}
 use native.Mathlib.Omega.{arith}
-use Rattle.engine.specs.Code.{answerOf}
+use Rattle.answers.specs.Code.{answerOf}
 use Rattle.session.proofs.Kept.{ran-called, ran-refused}
 use borrow.Author.Needs.{needs}
 use Rattle.session.proofs.run.run.Statement.{statement}
