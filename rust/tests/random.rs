@@ -1,5 +1,5 @@
 //! Engine, both independent judges and the full register over lists by chance, in which requests are
-//! decided, some of them previewed, and contexts closed.
+//! decided, some of them previewed, contexts closed, and the policy read and written as text.
 //!
 //! In a debug build each part but the large lists is a tenth as long.
 //!
@@ -29,7 +29,9 @@ use support::damage::{damage, move_record, restamp, telling, MOVED};
 use support::lists::{shortest, Call, List, Start, BY_DOCUMENT_01};
 use support::ranged;
 use support::repeated::Repeated;
+use support::reread;
 use support::runs::{full, number_from, Where};
+use support::texts::{READ, WRITE};
 use support::world::{damaged_context, request_bytes, Asked, World};
 use support::written;
 
@@ -91,6 +93,13 @@ fn with_closings_or_not(chance: &mut Chance, mut list: List) -> List {
     list
 }
 
+/// The same with readings and writings of its policy. Every fourth list has none.
+fn with_texts_or_not(chance: &mut Chance, mut list: List) -> List {
+    let of_a_hundred = chance.pick(&[0, 1, 2, 5]);
+    list.calls = Call::with_texts(chance, list.calls, &list.policy, of_a_hundred);
+    list
+}
+
 fn noise(chance: &mut Chance, length: usize) -> Vec<u8> {
     (0..length).map(|_| chance.next() as u8).collect()
 }
@@ -120,7 +129,8 @@ fn small_list(comparing: &mut Comparing, chance: &mut Chance) {
     assert_eq!(comparing.check_policy(&world.image), accepted);
     let (blocks, length) = (chance.from(1, 3), chance.from(0, 200));
     let list = list(chance, &world, blocks, length, 4, 1);
-    with_closings_or_not(chance, list).run(comparing);
+    let list = with_closings_or_not(chance, list);
+    with_texts_or_not(chance, list).run(comparing);
 }
 
 fn large_list(comparing: &mut Comparing, chance: &mut Chance) {
@@ -136,7 +146,9 @@ fn middling_list(comparing: &mut Comparing, chance: &mut Chance) {
     let world = large_world(chance);
     let blocks = chance.from(4, 24);
     let list = list(chance, &world, blocks, 24 * blocks, 1, 10);
-    with_closings_or_not(chance, list).run(comparing);
+    let mut list = with_closings_or_not(chance, list);
+    list.calls = Call::with_texts(chance, list.calls, &list.policy, 3);
+    list.run(comparing);
 }
 
 /// What decisions must have seen so many times; previews, which are fewer, a fifth of that.
@@ -154,6 +166,7 @@ fn must_have_seen_in_lists(seen: &Seen, times: usize) {
     seen.must_note(&ranged::MET, 2 * times / 5);
     seen.must_refuse("close", &REQUEST_NUMBERS, times / 5);
     seen.must_note(&closed::MET, times / 25);
+    must_have_seen_of_texts(seen, times / 10);
 }
 
 /// With 32 rules a table is seldom empty again.
@@ -164,6 +177,16 @@ fn must_have_seen_in_large_lists(seen: &Seen, times: usize) {
         seen.must_grant(call, &KINDS[3..], times);
     }
     seen.must_note(&ranged::MET, times);
+    must_have_seen_of_texts(seen, times / 4);
+}
+
+/// What readings and writings among the calls must have come to: so many times what is rare, and what is
+/// not rare some times as often.
+fn must_have_seen_of_texts(seen: &Seen, times: usize) {
+    seen.must_refuse(READ, &[41, 42, 43], times);
+    seen.must_refuse(WRITE, &[42, 43], times);
+    seen.must_note(&reread::MET, 2 * times);
+    seen.must_note(&reread::MET_AFTER, 20 * times);
 }
 
 #[test]
@@ -206,13 +229,13 @@ fn opened_list(comparing: &mut Comparing, chance: &mut Chance) {
         }
     }
     let of_a_hundred = if closings { 3 } else { 0 };
-    List {
+    let list = List {
         policy: world.image.clone(),
         start,
         calls: Call::with_closings(chance, calls, of_a_hundred),
         every: 1,
-    }
-    .run(comparing);
+    };
+    with_texts_or_not(chance, list).run(comparing);
 }
 
 fn must_have_seen_in_opened_lists(seen: &Seen, times: usize) {
@@ -220,6 +243,7 @@ fn must_have_seen_in_opened_lists(seen: &Seen, times: usize) {
     seen.must_note(&closed::MET_OPENED, times);
     seen.must_note(&closed::MET_AFTER, times);
     seen.must_note(&[BY_DOCUMENT_01], 20 * times);
+    must_have_seen_of_texts(seen, times / 3);
 }
 
 #[test]
@@ -286,7 +310,8 @@ fn strange_table(comparing: &mut Comparing, chance: &mut Chance) {
             request_bytes(chance, &request, 2)
         })
         .collect();
-    list_on(chance, &world.image, table, requests, 10).run(comparing);
+    let list = list_on(chance, &world.image, table, requests, 10);
+    with_texts_or_not(chance, list).run(comparing);
 }
 
 fn strange_large_table(comparing: &mut Comparing, chance: &mut Chance) {
@@ -657,35 +682,41 @@ fn shortest_failing_lists() {
 // ---------------------------------------------------------------------------------------------
 // The long run
 
+type Part = (&'static str, usize, fn(&mut Comparing, &mut Chance));
+
+const LONG: [Part; 10] = [
+    ("small lists", 7_000_000, small_list),
+    ("opened runs", 1_000_000, opened_list),
+    ("middling lists", 100_000, middling_list),
+    ("large lists", 15_000, large_list),
+    ("strange tables", 2_000_000, strange_table),
+    ("strange large tables", 10_000, strange_large_table),
+    ("busy tables", 150_000, busy_table),
+    ("repeated requests", 300_000, repeated_table),
+    ("damaged images", 1_000_000, damaged_images),
+    ("every byte", 500_000, every_byte),
+];
+
 #[test]
 #[ignore = "takes long; see the top of this file"]
 fn long() {
     let seed = number_from("SOD_SEED", SEED + 1);
     let times = number_from("SOD_TIMES", 1) as usize;
-    type Part = (&'static str, usize, fn(&mut Comparing, &mut Chance));
-    let parts: [Part; 10] = [
-        ("small lists", 7_000_000, small_list),
-        ("opened runs", 1_000_000, opened_list),
-        ("middling lists", 100_000, middling_list),
-        ("large lists", 15_000, large_list),
-        ("strange tables", 2_000_000, strange_table),
-        ("strange large tables", 10_000, strange_large_table),
-        ("busy tables", 150_000, busy_table),
-        ("repeated requests", 300_000, repeated_table),
-        ("damaged images", 1_000_000, damaged_images),
-        ("every byte", 500_000, every_byte),
-    ];
     let (mut decisions, mut previews, mut closings) = (0, 0, 0);
-    for (part, enough, one) in parts {
+    let (mut readings, mut writings) = (0, 0);
+    for (part, enough, one) in LONG {
         let mut comparing = Comparing::new();
         until(&mut comparing, part, seed, enough * times, one);
         println!("{part}: {}", comparing.seen);
         decisions += comparing.seen.decisions;
         previews += comparing.seen.previews;
         closings += comparing.seen.closings;
+        readings += comparing.seen.readings;
+        writings += comparing.seen.writings;
         match part {
             "small lists" => must_have_seen_in_lists(&comparing.seen, 10_000 * times),
             "opened runs" => must_have_seen_in_opened_lists(&comparing.seen, 1_500 * times),
+            "middling lists" => must_have_seen_in_large_lists(&comparing.seen, 100 * times),
             "strange tables" => must_have_seen_in_lists(&comparing.seen, 5_000 * times),
             "busy tables" => must_have_seen_in_busy_tables(&comparing.seen, 250 * times),
             "repeated requests" => must_have_seen_in_repeated_tables(&comparing.seen, 1_000),
@@ -694,6 +725,7 @@ fn long() {
         }
     }
     println!(
-        "{decisions} decisions, {previews} previews and {closings} closings in all, from seed {seed}"
+        "{decisions} decisions, {previews} previews, {closings} closings, {readings} readings and \
+         {writings} writings in all, from seed {seed}"
     );
 }

@@ -6,6 +6,7 @@ use super::guarded::{Guarded, SHIFTS};
 use super::lent::{Lay, Lent};
 use super::plain;
 use super::ranged;
+use super::texts::{Texts, READ, WRITE};
 use super::written::{differing_bytes, Change, NONE};
 use crate::independent::images::{places, BLOCK};
 use crate::independent::{judge, quick, Reply};
@@ -19,6 +20,8 @@ pub struct Seen {
     pub decisions: usize,
     pub previews: usize,
     pub closings: usize,
+    pub readings: usize,
+    pub writings: usize,
     refusals: BTreeMap<(&'static str, u32), usize>,
     grants: BTreeMap<(&'static str, Kind), usize>,
     notes: BTreeMap<(&'static str, &'static str), usize>,
@@ -57,6 +60,8 @@ impl Seen {
         self.decisions += usize::from(decides);
         self.previews += usize::from(previews);
         self.closings += usize::from(call == "close");
+        self.readings += usize::from(call == READ);
+        self.writings += usize::from(call == WRITE);
     }
 
     /// Takes down that a call met with this.
@@ -110,8 +115,8 @@ impl fmt::Display for Seen {
     fn fmt(&self, f: &mut fmt::Formatter) -> fmt::Result {
         writeln!(
             f,
-            "{} decisions, {} previews, {} closings",
-            self.decisions, self.previews, self.closings
+            "{} decisions, {} previews, {} closings, {} readings, {} writings",
+            self.decisions, self.previews, self.closings, self.readings, self.writings
         )?;
         for ((call, (recorded, removed, held)), times) in &self.grants {
             let some = |yes: &bool| if *yes { "some" } else { "0" };
@@ -190,6 +195,8 @@ pub struct Comparing {
     /// A request, or the context of a closing.
     request: Lent,
     guarded: Guarded,
+    /// Made for the first text; most tests have none.
+    texts: Option<Texts>,
     calls: usize,
     pub seen: Seen,
 }
@@ -209,6 +216,7 @@ impl Comparing {
             table: Lent::new(LONGEST_TABLE),
             request: Lent::new(LONGEST_REQUEST),
             guarded: Guarded::new(LONGEST_TABLE),
+            texts: None,
             calls: 0,
             seen: Seen::default(),
         }
@@ -407,6 +415,24 @@ impl Comparing {
             self.seen.note(MAKES_ROOM);
         }
         self.done("preview", reply)
+    }
+
+    /// Reads or writes a text while a policy and a table lie where they are lent, and alters neither.
+    pub fn beside(
+        &mut self,
+        call: &'static str,
+        policy: &[u8],
+        table: &[u8],
+        work: impl FnOnce(&mut Texts) -> Result<Vec<u8>, Reply>,
+    ) -> Result<Vec<u8>, Reply> {
+        // Where the call before had them, in case that the engine has kept something of it.
+        self.calls += 1;
+        self.lay(policy, table, &[]);
+        let given = work(self.texts.get_or_insert_with(Texts::new));
+        self.nothing_altered(policy, table, &[]);
+        let length = given.as_ref().map(Vec::len);
+        self.done(call, length.map_or_else(|&refusal| refusal, Reply::accept));
+        given
     }
 
     /// Compares what a call has made of the table; takes it over if the call was not refused.

@@ -4,6 +4,8 @@ use super::chance::Chance;
 use super::closed::{Since, Step};
 use super::compare::{Comparing, Seen};
 use super::plain::line;
+use super::reread::{Lately, Reading, Rules, Writing};
+use super::texts::WRITE;
 use super::world::closing_bytes;
 use super::written::differing_bytes;
 use crate::independent::images::*;
@@ -23,7 +25,7 @@ pub struct List {
     pub every: usize,
 }
 
-/// What is done with a request, or with a context, whose bytes these are.
+/// What is done with a request, or with a context, whose bytes these are; or with the list's policy.
 pub enum Call {
     Decide(Vec<u8>),
     Preview(Vec<u8>),
@@ -32,6 +34,8 @@ pub enum Call {
     Close(Vec<u8>),
     /// The table is checked.
     Check,
+    Read(Reading),
+    Write(Writing),
 }
 
 impl Call {
@@ -71,6 +75,28 @@ impl Call {
         mixed
     }
 
+    /// Before so many of a hundred calls the rules of the list's policy are read or written as text.
+    pub fn with_texts(
+        chance: &mut Chance,
+        calls: Vec<Call>,
+        policy: &[u8],
+        of_a_hundred: usize,
+    ) -> Vec<Call> {
+        let mut rules = None;
+        let mut mixed = vec![];
+        for call in calls {
+            if chance.percent(of_a_hundred) {
+                let rules = rules.get_or_insert_with(|| Rules::of(chance, policy));
+                mixed.push(match chance.percent(60) {
+                    true => Call::Read(rules.reading(chance)),
+                    false => Call::Write(rules.writing(chance)),
+                });
+            }
+            mixed.push(call);
+        }
+        mixed
+    }
+
     /// The context of a good request.
     fn context(&self) -> Option<Context> {
         match self {
@@ -97,6 +123,8 @@ impl Call {
                 Err(_) => format!("closing of {bytes:?}"),
             },
             Call::Check => "check of the table".to_string(),
+            Call::Read(reading) => reading.text(),
+            Call::Write(writing) => writing.text(),
         }
     }
 }
@@ -136,13 +164,13 @@ impl List {
     ) {
         let mut table = self.table().to_vec();
         let along = self.begin(comparing, &mut table, every);
-        let policy = &self.policy;
         let mut play = Play {
             comparing,
-            policy,
+            policy: self.policy.clone(),
             table,
             along,
             since: Since::default(),
+            lately: Lately::default(),
         };
         for call in &self.calls[..length] {
             if let Call::Decide(request) | Call::Both(request) = call {
@@ -207,6 +235,8 @@ impl List {
                 Call::Preview(request) => line(judge::preview(&self.policy, &table, request)),
                 Call::Close(context) => counted(judge::close(&self.policy, &mut table, context)),
                 Call::Check => counted(judge::check_table(&self.policy, &table)),
+                Call::Read(reading) => counted(reading.by_judge(&self.policy)),
+                Call::Write(writing) => counted(writing.by_judge(&self.policy)),
             };
             let blocks = differing_bytes(&before, &table).len();
             let words = call.text();
@@ -216,7 +246,7 @@ impl List {
     }
 }
 
-/// The answer of a closing or a check in words.
+/// The answer in words of a call that counts: records, bytes.
 fn counted(reply: Reply) -> String {
     match reply.number {
         0 => reply.first.to_string(),
@@ -227,10 +257,12 @@ fn counted(reply: Reply) -> String {
 /// A list while it is played.
 struct Play<'l> {
     comparing: &'l mut Comparing,
-    policy: &'l [u8],
+    /// The list's policy, from the first reading on that gives it the image that was read.
+    policy: Vec<u8>,
     table: Vec<u8>,
     along: Option<Along>,
     since: Since,
+    lately: Lately,
 }
 
 impl Play<'_> {
@@ -252,16 +284,21 @@ impl Play<'_> {
             }
             Call::Close(context) => self.close(context),
             Call::Check => self.check(),
+            Call::Read(reading) => self.read(reading),
+            Call::Write(writing) => self.write(writing),
         }
     }
 
     fn preview(&mut self, request: &[u8]) -> Reply {
-        self.comparing.preview(self.policy, &self.table, request)
+        let reply = (self.comparing).preview(&self.policy, &self.table, request);
+        (self.lately).other("preview", reply, &mut self.comparing.seen);
+        reply
     }
 
     fn decide(&mut self, request: &[u8]) -> Reply {
         let before = self.table.clone();
-        let reply = (self.comparing).decide(self.policy, &mut self.table, request);
+        let reply = (self.comparing).decide(&self.policy, &mut self.table, request);
+        (self.lately).other("decide", reply, &mut self.comparing.seen);
         if let Some(along) = &mut self.along {
             along.take(request, reply, &self.table, &mut self.comparing.seen);
             self.note(&before, request, reply, Since::decision);
@@ -271,7 +308,8 @@ impl Play<'_> {
 
     fn close(&mut self, context: &[u8]) {
         let before = self.table.clone();
-        let reply = (self.comparing).close(self.policy, &mut self.table, context);
+        let reply = (self.comparing).close(&self.policy, &mut self.table, context);
+        (self.lately).other("close", reply, &mut self.comparing.seen);
         if let Some(along) = &mut self.along {
             along.close(context, reply, &self.table, &mut self.comparing.seen);
             self.note(&before, context, reply, Since::closing);
@@ -287,7 +325,7 @@ impl Play<'_> {
         meets: impl Fn(&mut Since, &Step) -> BTreeSet<&'static str>,
     ) {
         let step = Step {
-            policy: self.policy,
+            policy: &self.policy,
             before,
             after: &self.table,
             bytes,
@@ -298,9 +336,21 @@ impl Play<'_> {
         }
     }
 
+    /// What follows is lent the image that was read, if it is the list's policy.
+    fn read(&mut self, reading: &Reading) {
+        let read = reading.make(self.comparing, &self.policy, &self.table);
+        (self.lately).reading(read, &mut self.policy, &mut self.comparing.seen);
+    }
+
+    fn write(&mut self, writing: &Writing) {
+        let reply = writing.make(self.comparing, &self.policy, &self.table);
+        (self.lately).other(WRITE, reply, &mut self.comparing.seen);
+    }
+
     /// A table from a fresh one holds what was recorded and not removed.
     fn check(&mut self) {
-        let held = self.comparing.check_table(self.policy, &self.table);
+        let held = self.comparing.check_table(&self.policy, &self.table);
+        (self.lately).other("check_table", held, &mut self.comparing.seen);
         if let Some(along) = &self.along {
             assert_eq!(held, Reply::accept(along.held()));
         }

@@ -18,6 +18,7 @@ pub mod named;
 pub mod plain;
 pub mod ranged;
 pub mod repeated;
+pub mod reread;
 pub mod runs;
 pub mod spelled;
 pub mod texts;
