@@ -23,12 +23,12 @@ module _ {A : Type 0} {P : A → Type 0} where
   pub every_take : {l : List A} (n : ℕ) → Every P l → Every P (take n l)
   every_take zero ps = empty
   every_take (suc n) empty = empty
-  every_take (suc n) (more p ps) = more p (every_take n ps)
+  every_take (suc n) (more {x = x} {xs = xs} p ps) = more p (every_take {l = xs} n ps)
 
   pub every_drop : {l : List A} (n : ℕ) → Every P l → Every P (drop n l)
   every_drop zero ps = ps
   every_drop (suc n) empty = empty
-  every_drop (suc n) (more p ps) = every_drop n ps
+  every_drop (suc n) (more {x = x} {xs = xs} p ps) = every_drop {l = xs} n ps
 
   -- ---- put together
 

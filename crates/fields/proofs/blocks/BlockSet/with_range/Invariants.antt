@@ -1,0 +1,12 @@
+use Prim.Native.Nat.{ℕ, ◌-◌, ◌≤◌}
+use native.Mathlib.Omega.{arith}
+use mathlib.Core.Path.{◌≡◌, ap, ◌∙◌}
+use mathlib.Core.Bool.{◌&&◌, ◌||◌}
+use lib.Dec.{eqb, leb, ltb}
+use Rattle.fields.specs.Code.{has_block}
+use Rattle.fields.proofs.BlockSets.{range_none, range-more}
+use Rattle.fields.proofs.blocks.BlockSet.with_range.Given as goal
+
+abbrev pub invariant-loop-k : goal.invariant-loop-k
+invariant-loop-k l =
+    (l.from ≤ l.k) × ((l.k ≤ l.to) × ((i : ℕ) → has_block l.set i ≡ ((leb l.from i && ltb i l.k) || has_block l.initial.set i)))

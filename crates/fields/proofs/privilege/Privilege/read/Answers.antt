@@ -1,0 +1,4 @@
+use Rattle.fields.proofs.privilege.Privilege.read.Goals as goal
+
+pub returns : goal.returns
+returns c = cc
