@@ -7,7 +7,7 @@ use crate::reply::{Converted, Reply};
 
 // An answer in four numbers: 0 and what acceptance or a grant returns, or a refusal's number and its two places.
 #[repr(C)]
-#[derive(Drop)]
+#[derive(Clone, Copy)]
 pub struct SodReply {
     pub number: u32,
     pub first: u32,

@@ -12,7 +12,7 @@ use fields::tables::Blocks;
 use matching::masks::{Each, together_of};
 
 // The rules that end, the masks that tell their run places apart, and blocks outside which no record is in the request's run place of one of them.
-#[derive(Drop)]
+#[derive(Clone, Copy)]
 pub struct Ending {
     pub rules: RuleSet,
     pub each: Each,

@@ -16,7 +16,7 @@ use fields::tables::record_start;
 use table_write::places::{place, remark};
 
 // How many records are held, and the blocks in which another record stands than before.
-#[derive(Drop)]
+#[derive(Clone, Copy)]
 pub struct Settled {
     pub held: usize,
     pub changed: BlockSet,

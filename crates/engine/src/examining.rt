@@ -18,7 +18,7 @@ use table_check::tables::{record_count, table_fault};
 use verdict::verdicts::verdict_of;
 
 // A request that has passed: the policy's stamp, how many records the table has, and what a grant ends and gives.
-#[derive(Drop)]
+#[derive(Clone, Copy)]
 pub struct Pass {
     pub stamp: Sum,
     pub held: usize,
@@ -27,7 +27,7 @@ pub struct Pass {
 }
 
 // The refusal that a decision gives, or a request that has passed.
-#[derive(Drop)]
+#[derive(Clone, Copy)]
 pub enum Examined {
     Refused(Refusal),
     Passed(Pass),

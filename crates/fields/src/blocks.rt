@@ -4,7 +4,7 @@ ghost use Rattle.format.specs.Layout.{table_blocks};
 ghost use Rattle.fields.specs.Code.{has_block, no_block};
 
 // A set of a table's blocks: block k below 64 at bit k of `low`, the others in `high`.
-#[derive(Drop)]
+#[derive(Clone, Copy)]
 pub struct BlockSet {
     pub low: u64,
     pub high: u64,

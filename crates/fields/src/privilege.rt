@@ -6,14 +6,14 @@ ghost use Rattle.fields.specs.Code.{privilege_of, packed_of};
 use crate::field::u16_at;
 use crate::number::{Operation, Target};
 
-#[derive(Drop)]
+#[derive(Clone, Copy)]
 pub struct Privilege {
     pub operation: Operation,
     pub target: Target,
 }
 
 // A privilege in one number, as its bytes stand: many are compared at once so. Only a privilege makes one.
-#[derive(Drop)]
+#[derive(Clone, Copy)]
 pub struct Packed(pub u32);
 
 // The operation at a byte.

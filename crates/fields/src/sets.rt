@@ -7,7 +7,7 @@ use crate::field::{bit, without};
 use crate::number::Role;
 
 // A set of roles: "role k is bit k - 1".
-#[derive(Drop)]
+#[derive(Clone, Copy)]
 pub struct Roles(pub u32);
 
 impl Roles {
@@ -28,7 +28,7 @@ impl Roles {
 }
 
 // A set of rules: "rule r at bit r - 1", so that the rule of index i, from 0, is bit i. A record's marks are one.
-#[derive(Drop)]
+#[derive(Clone, Copy)]
 pub struct RuleSet(pub u32);
 
 impl RuleSet {

@@ -15,7 +15,7 @@ pub fn good_length(s: &[u8], most: usize) -> bool
 }
 
 // A number of table blocks.
-#[derive(Drop)]
+#[derive(Clone, Copy)]
 pub struct Blocks(pub usize);
 
 impl Blocks {

@@ -4,7 +4,7 @@ ghost use Rattle.words.specs.Lists.{any_of};
 ghost use Rattle.forms.specs.Form.{ascii, is_of};
 ghost use Rattle.forms.specs.Code.{kind_of};
 
-#[derive(Drop)]
+#[derive(Clone, Copy)]
 pub enum ByteKind {
     Space,
     Digit,

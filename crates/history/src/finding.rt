@@ -32,7 +32,7 @@ pub fn shared_at(each: Each, rules: RuleSet, q: &[u8], table: &[u8], at: usize) 
 }
 
 // What the pass finds: the rules whose run place is open, the blocks that have a record there, and how many records may count.
-#[derive(Drop)]
+#[derive(Clone, Copy)]
 pub struct Found {
     pub open: RuleSet,
     pub near: BlockSet,

@@ -14,7 +14,7 @@ use fields::sets::RuleSet;
 use policy_check::policy::Checked;
 
 // The rules that have mark 3, each, at a level, for each of the four levels.
-#[derive(Drop)]
+#[derive(Clone, Copy)]
 pub struct Each {
     pub first: RuleSet,
     pub second: RuleSet,

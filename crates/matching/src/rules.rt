@@ -15,7 +15,7 @@ use fields::sets::RuleSet;
 use policy_check::policy::Checked;
 
 // The rules that the request fits; those of them that judge it whether or not their run place is open; those whose last step it is.
-#[derive(Drop)]
+#[derive(Clone, Copy)]
 pub struct Matched {
     pub fitting: RuleSet,
     pub starting: RuleSet,
@@ -24,7 +24,7 @@ pub struct Matched {
 
 // What a grant does to marks: "for each judging rule whose last step this is, clear its mark in that run place. The request gets the marks of the
 // other judging rules."
-#[derive(Drop)]
+#[derive(Clone, Copy)]
 pub struct Effect {
     pub ends: RuleSet,
     pub gives: RuleSet,

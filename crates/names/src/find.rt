@@ -46,7 +46,7 @@ fn is_number(list: &[u8], i: usize, kind: u8, number: u16) -> bool
 }
 
 // Where a name stands in the list: its entry, from 0.
-#[derive(Drop)]
+#[derive(Clone, Copy)]
 pub enum Entry {
     Missing,
     At(usize),

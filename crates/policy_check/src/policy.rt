@@ -108,7 +108,7 @@ pub fn rule_count(s: &[u8]) -> u32
 }
 
 // What the code above has of a policy that has passed its check: the number of its rules, and its stamp.
-#[derive(Drop)]
+#[derive(Clone, Copy)]
 pub struct Checked {
     pub rules: u32,
     pub stamp: Sum,

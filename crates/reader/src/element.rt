@@ -7,7 +7,7 @@ use crate::table::{ELEMENTS, NONE, next_state};
 use crate::word::{length_of, matched};
 
 // A tag and the end of its word; or the first byte that does not fit.
-#[derive(Drop)]
+#[derive(Clone, Copy)]
 pub struct Beginning {
     pub found: bool,
     pub element: usize,

@@ -9,7 +9,7 @@ use crate::table::BEHIND;
 use forms::kind::ByteKind;
 
 // The first byte that no policy set has there, from 0, the text's end counted; and whether the text is a whole one.
-#[derive(Drop)]
+#[derive(Clone, Copy)]
 pub struct Reached {
     pub at: usize,
     pub whole: bool,

@@ -4,7 +4,7 @@ ghost use Rattle.reader.specs.Read.{ReadsTag};
 
 use crate::reading::{Tag, tag_at};
 
-#[derive(Drop)]
+#[derive(Clone, Copy)]
 pub struct Reader<'a> {
     pub text: &'a [u8],
     pub at: usize,

@@ -9,7 +9,7 @@ use crate::tag::rest;
 use forms::kind::ByteKind;
 
 // The tag's end and the state behind it; or the first bad byte.
-#[derive(Drop)]
+#[derive(Clone, Copy)]
 pub struct Tag {
     pub took: bool,
     pub element: usize,

@@ -11,7 +11,7 @@ use crate::word::{length_of, matched};
 use forms::kind::ByteKind;
 
 // What a scanner found: the end of what it took, or the first byte that does not fit.
-#[derive(Drop)]
+#[derive(Clone, Copy)]
 pub struct Scan {
     pub took: bool,
     pub at: usize,

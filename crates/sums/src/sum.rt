@@ -18,7 +18,7 @@ const FOURTH_AT: usize = 3 * WORD_BYTES;
 const FOUR_BYTES: usize = 4 * WORD_BYTES;
 
 // The state of the two sums.
-#[derive(Drop)]
+#[derive(Clone, Copy)]
 pub struct Sum {
     pub a: u32,
     pub b: u32,
@@ -50,7 +50,7 @@ impl Sum {
 
 // Four states side by side, each from 0: word 4 * i + l goes to state l. In one state a word waits for the word before it; side by side four go on at
 // once, and the compiler makes one wide add of them.
-#[derive(Drop)]
+#[derive(Clone, Copy)]
 pub struct Four {
     pub w: Sum,
     pub x: Sum,

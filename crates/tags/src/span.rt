@@ -1,5 +1,5 @@
 // Where a piece of a text stands: from one byte up to another.
-#[derive(Drop)]
+#[derive(Clone, Copy)]
 pub struct Span {
     pub from: usize,
     pub to: usize,

@@ -10,14 +10,14 @@ use crate::rows::row_at;
 use crate::span::Span;
 
 // What a privilege is there: a rule's first step, its last step, or a member of an exclusion.
-#[derive(Drop)]
+#[derive(Clone, Copy)]
 pub enum Place {
     First,
     Last,
     Member,
 }
 
-#[derive(Drop)]
+#[derive(Clone, Copy)]
 pub enum Tag {
     StartSet,
     EndSet,

@@ -19,7 +19,7 @@ use fields::sets::Roles;
 
 // What an exclusion counts of the requests taken in: for one of roles all the roles that were active, for one of privileges how often
 // each of its eight members was done. Members past its number are there too, and are not looked at.
-#[derive(Drop)]
+#[derive(Clone, Copy)]
 pub struct Tally {
     pub kind: u8,
     pub roles: Roles,

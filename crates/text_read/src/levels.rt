@@ -15,7 +15,7 @@ use tags::cut::{next, squeeze, until};
 use tags::span::Span;
 
 // Every name was listed, and how many levels there are.
-#[derive(Drop)]
+#[derive(Clone, Copy)]
 pub struct Levels {
     pub listed: bool,
     pub depth: usize,

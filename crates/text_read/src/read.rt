@@ -13,7 +13,7 @@ use numbering::anew::write_image;
 use reader::reached::reach_of;
 
 // What reading answers: the number of a refusal for a name or a limit, the first byte that the form does not have, or the length of the image.
-#[derive(Drop)]
+#[derive(Clone, Copy)]
 pub enum Read {
     Refused(u32),
     Misfit(usize),

@@ -6,14 +6,14 @@ use fields::layout::MOST_RULES;
 use tags::span::Span;
 
 // How many rules have ended, up to one more than there may be; and where the context of the rule that is being read stands.
-#[derive(Drop)]
+#[derive(Clone, Copy)]
 pub struct Sheet {
     pub rules: usize,
     pub context: Span,
 }
 
 // What a tag brings: a number of refusal, 0 for none, and the sheet after it.
-#[derive(Drop)]
+#[derive(Clone, Copy)]
 pub struct Turn {
     pub fault: u32,
     pub sheet: Sheet,

@@ -13,7 +13,7 @@ use names::find::{Entry, name_of};
 use names::layout::{BYTES_AT, ENTRY_BYTES, LENGTH_AT};
 
 // Where the next byte goes, and whether a name was missing so far.
-#[derive(Drop)]
+#[derive(Clone, Copy)]
 pub struct Pen {
     pub at: usize,
     pub missing: bool,

@@ -14,7 +14,7 @@ use crate::spelling::{SET, SET_END};
 use fields::layout::BLOCK_BYTES;
 
 // What a call answers: a refusal's number, or the text's length.
-#[derive(Drop)]
+#[derive(Clone, Copy)]
 pub enum Wrote {
     Refused(u32),
     Length(usize),

@@ -22,7 +22,7 @@ use format::answer::Grant;
 use sums::sum::Sum;
 
 // What steps 4 and 5 answer.
-#[derive(Drop)]
+#[derive(Clone, Copy)]
 pub enum Updated {
     Full,
     Granted(Grant),
@@ -48,7 +48,7 @@ pub fn granted(n: usize, gives: RuleSet, held: usize) -> Updated
 }
 
 // What steps 4 and 5 answer, and how many blocks they wrote.
-#[derive(Drop)]
+#[derive(Clone, Copy)]
 pub struct Changed {
     pub updated: Updated,
     pub written: usize,

@@ -21,7 +21,7 @@ use table_write::places::{place_request, with_resized};
 use table_write::write::seal_blocks;
 
 // What was written: how many records the table holds now, and how many of its blocks were written.
-#[derive(Drop)]
+#[derive(Clone, Copy)]
 pub struct Written {
     pub held: usize,
     pub blocks: usize,

@@ -15,14 +15,14 @@ use matching::masks::Each;
 use tally::tallies::reaches;
 
 // The rules that judge, and the masks that tell run places apart.
-#[derive(Drop)]
+#[derive(Clone, Copy)]
 pub struct Judging {
     pub rules: RuleSet,
     pub each: Each,
 }
 
 // The first failing exclusion: its rule and itself, each by its index from 0.
-#[derive(Drop)]
+#[derive(Clone, Copy)]
 pub enum Failing {
     Nowhere,
     At(u32, u32),

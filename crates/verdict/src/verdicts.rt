@@ -34,7 +34,7 @@ const FEW: usize = 60;
 const FEW_WORDS: usize = 2 * FEW;
 
 // The verdict; with none against the request, what a grant ends and gives, and blocks outside which it clears no mark.
-#[derive(Drop)]
+#[derive(Clone, Copy)]
 pub struct Verdict {
     pub fault: Fault,
     pub effect: Effect,
@@ -42,7 +42,7 @@ pub struct Verdict {
 }
 
 // What a request is to the rules of a policy, and the masks that tell their run places apart.
-#[derive(Drop)]
+#[derive(Clone, Copy)]
 struct Asked {
     matched: Matched,
     each: Each,
