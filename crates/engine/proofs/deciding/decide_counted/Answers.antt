@@ -31,5 +31,5 @@ returns-in-Passed c =
     let a = c.args in
     let p = subst (ExaminedIs a.policy.now a.table.now a.request.now) c.in-Passed.is c.examine-examined.ensures in
     let after = c.update-changed.ensures _ p.judged in
-    let decided = ap (λ (y : Answer). outcome y c.update-changed.new.table.1.1.1.0) c.reply_of.ensures ∙ after.0 ∙ p.rest in
+    let decided = ap (λ (y : Answer). outcome y c.update-changed.new.table) c.reply_of.ensures ∙ after.0 ∙ p.rest in
     (decided, counted a.table.now decided after.1)
