@@ -23,13 +23,14 @@ fn run_file(rt: &(impl Env + Files + Print + Eprint), i: usize) -> io::Result<bo
     out.write_all(&path[..length])?;
     out.write_all(b"\n")?;
     let Ok(name) = std::str::from_utf8(&path[..length]) else {
-        eprintln!(rt; "argument: not UTF-8")?;
+        eprintln!(rt; "argument: File name not in UTF-8")?;
         return Ok(true);
     };
     match File::open(rt, name) {
-        Ok(file) => {
-            let mut input = file;
-            trial(&mut input, &mut out)?;
+        Ok(mut input) => {
+            if let Err(e) = trial(&mut input, &mut out) {
+                eprintln!(rt; "{name}: {e}")?;
+            }
         }
         Err(e) => eprintln!(rt; "{name}: {e}")?,
     }
