@@ -13,18 +13,14 @@ use Rattle.policy_check.proofs.PolicyBlock.{block-part, fault-of-block, permissi
 use Rattle.policy_check.proofs.policy.blocks_fault.Goals.{After-block_fault-fault, At-loop-k}
 use Rattle.policy_check.proofs.policy.blocks_fault.Goals as goal
 
--- where the loop stands after the call of `block_fault`, and the image
-abbrev turn : After-block_fault-fault → At-loop-k
-turn c = c.before.before.before
-
 abbrev image : At-loop-k → List ℕ
 image c = c.args.s.now
 
 -- what `block_fault` answers is the fault of block k of the image
-fault : (c : After-block_fault-fault) → fault_of c.block_fault-fault.result ≡ policy_block_fault (image (turn c)) (turn c).loop-k.k
+fault : (c : After-block_fault-fault) → fault_of c.block_fault-fault.result ≡ policy_block_fault (image (goal.at.After-block_fault-fault c).At-loop-k) c.loop-k.k
 fault c =
     let at = (goal.at.After-block_fault-fault c).At-loop-k in
-    let s = at.args.s.now in
+    let s = c.args.s.now in
     let l = at.loop-k in
     (rw (block-part s l.k, l.invariant.1.0) at c.block_fault-fault.ensures) ∙ fault-of-block s l.k
 
@@ -38,15 +34,15 @@ block_fault-fault-requires c = simp (length-take, length-drop) (omega arith)
 pub returns-in_default : goal.returns-in_default
 returns-in_default c =
     let called = (goal.at.returns-in_default c).After-block_fault-fault in
-    let l = (turn called).loop-k in
+    let l = c.loop-k in
     let e = ap fault_of c.in_default.is in
     e ∙ first-hit _ l.k _ l.invariant.1.1 (omega arith) (sym (fault called) ∙ e)
 
 pub loop-k-preserved : goal.loop-k-preserved
 loop-k-preserved c =
     let called = (goal.at.loop-k-preserved c).After-block_fault-fault in
-    let s = image (turn called) in
-    let l = (turn called).loop-k in (
+    let s = image (goal.at.loop-k-preserved c).At-loop-k in
+    let l = c.loop-k in (
       omega arith,
       (
         rw (l.invariant.1.0, c.u32_at.ensures, block-part s l.k) (permission-more s l.k),

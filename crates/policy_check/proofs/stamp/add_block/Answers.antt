@@ -14,9 +14,9 @@ returns c =
     let u = (goal.at.returns c).After-u32_at in
     let s = (goal.at.returns c).Start in
     let sum : Sums = sums_of s.args.sum in
-    let fit : Fit sum = record { a-fits = omega (arith, s.well-formed); b-fits = omega (arith, s.well-formed) } in
+    let fit : Fit sum = record { a-fits = omega (arith, s.well_formed); b-fits = omega (arith, s.well_formed) } in
     let a = u.u32_at.ensures in
-    let b = k.u32_at-2.ensures in
+    let b = c.u32_at-2.ensures in
     c.add-2.ensures
     ∙ ap₂ {C = Sums} add_word
     (c.add.ensures

@@ -11,6 +11,6 @@ returns c =
     let e = (goal.at.returns c).After-used_count-2 in
     ap₂ {C = ℕ} (λ (m n : ℕ). m + n)
     (ap₂ {C = ℕ} (λ (m n : ℕ). m + n)
-    (ap₂ {C = ℕ} (λ (m n : ℕ). m + n) e.used_count.ensures.0 e.used_count-2.ensures.0)
+    (ap₂ {C = ℕ} (λ (m n : ℕ). m + n) c.used_count.ensures.0 e.used_count-2.ensures.0)
     d.used_count-3.ensures.0)
     c.used_count-4.ensures.0

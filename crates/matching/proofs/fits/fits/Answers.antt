@@ -1,0 +1,7 @@
+use Rattle.format.specs.Rule.{rule_at}
+use Rattle.format.specs.Fits.{fits}
+use Rattle.matching.proofs.fits.fits.Goals as goal
+
+pub returns : goal.returns
+unfolding fits rule_at
+returns c = rw (c.depth.ensures, c.levels_fit.ensures, c.wide-levels.ensures.0)

@@ -1,0 +1,20 @@
+use Prim.Native.Nat.{◌-◌, ◌*◌, ◌≤◌}
+use native.Mathlib.Omega.{arith}
+use mathlib.Core.Path.{◌≡◌, refl, sym, ap, ◌∙◌}
+use lib.ListN.{length-take, length-drop}
+use Rattle.words.specs.Lists.{any_below}
+use Rattle.words.specs.First.{first}
+use Rattle.sums.specs.Code.{sums_of}
+use Rattle.word_laws.proofs.Parts.{part-to}
+use Rattle.word_laws.proofs.First.{first-start, first-hit, first_more, first_done}
+use Rattle.format.specs.Block.{block, blocks}
+use Rattle.format.specs.Policy.{Policy}
+use Rattle.format.specs.Table.{table_block_fault}
+use Rattle.format.specs.Code.{fault_of}
+use Rattle.table_check.specs.CheckParts.{short_before, table_fault_in}
+use Rattle.rule_tests.specs.Bounds.{Tests}
+use Rattle.table_check.proofs.TableBlock.{fault-of-block, short-more}
+use Rattle.table_check.proofs.tables.blocks_fault.Given as goal
+
+abbrev pub invariant-loop-k : goal.invariant-loop-k
+invariant-loop-k l = (l.k ≤ l.n) × ((l.short ≡ short_before l.table l.k) × ((p : Policy) → Tests p l.checked.rules l.shapes l.bounds → first (table_block_fault p (sums_of l.checked.stamp) l.table) l.k (l.n - l.k) ≡ first (table_block_fault p (sums_of l.checked.stamp) l.table) 0 l.n))

@@ -1,0 +1,10 @@
+use Rattle.word_laws.proofs.Below.{sum_more, sum-all}
+use Rattle.words.specs.Lists.{sum_below}
+use native.Mathlib.Omega.{arith}
+use mathlib.Core.Path.{◌≡◌, refl}
+use Prim.Native.Nat.{◌*◌, ◌-◌, ◌≤◌}
+use Rattle.tally.specs.Code.{member_counts, members_count}
+use Rattle.tally.proofs.counting.count_privileges.Given as goal
+
+abbrev pub invariant-loop-k : goal.invariant-loop-k
+invariant-loop-k l = (l.k ≤ l.n) × ((l.count ≡ sum_below l.k (member_counts l.members l.times l.n)) × (l.count ≤ 8 * l.k))
