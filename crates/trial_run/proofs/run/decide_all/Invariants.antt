@@ -1,5 +1,5 @@
 -- The ordinal grows to a bound, and the table keeps its length.
-use Rattle.std.proofs.Common.{◌-◌, ◌≡◌, length, ℕ}
+use Rattle.std.proofs.Common.{◌-◌, ◌≡◌, length}
 use Rattle.trial_run.proofs.run.decide_all.Given as goal
 
 abbrev pub invariant-loop-ordinal : goal.invariant-loop-ordinal

@@ -1,5 +1,5 @@
 -- The bytes that were read stand at the buffer's front, and the buffer keeps its length.
-use Rattle.std.proofs.Common.{length, ◌-◌, ◌≡◌, ◌*◌, ◌≤◌, IfOk, ℕ, ◌+◌, ◌<◌}
+use Rattle.std.proofs.Common.{length, ◌-◌, ◌≡◌, ◌≤◌}
 use Rattle.trial_run.proofs.run.read_full.Given as goal
 
 abbrev pub invariant-loop-done : goal.invariant-loop-done
