@@ -1,4 +1,6 @@
 // The exclusion and the rule that are being read from a text, as blocks.
+#![tactic(auto)]
+
 pub mod exclusion;
 pub mod kept;
 pub mod limits;

@@ -1,4 +1,6 @@
 // The lent list of names: its check, and looking up in it.
+#![tactic(auto)]
+
 pub mod bytes;
 pub mod find;
 pub mod good;

@@ -1,4 +1,6 @@
 // For our own tests, in an archive of its own: a decision and a closing, and how many blocks each wrote. No part of the boundary (crates/sod, include/sod.h).
+#![tactic(auto)]
+
 ghost use Rattle.std.specs.Prelude.{◌≡◌};
 ghost use Rattle.judge.specs.Close.{close as close_of};
 ghost use Rattle.judge.specs.Decide.{decide as decide_of};

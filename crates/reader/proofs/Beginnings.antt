@@ -1,6 +1,6 @@
 -- Which tag begins at a place: the one whose word is all there; and if none is, the text goes as far as the longest beginning of a word.
 -- Assumes nothing.
-use Prim.Native.Nat.{ℕ, zero, suc, ◌+◌, ◌-◌, ◌≤◌, ◌<◌}
+use Prim.Native.Nat.{ℕ, zero, suc, ◌+◌, ◌≤◌, ◌<◌}
 use native.Mathlib.Omega.{arith}
 use native.Mathlib.Nat.{le_trans}
 use native.Mathlib.Numerals.{add-one}
@@ -18,7 +18,7 @@ use Rattle.forms.specs.Run.{common}
 use Rattle.forms.proofs.Tests.{one_passes}
 use Rattle.forms.proofs.Runs.{common-fits, common-fits-text, common-same}
 use Rattle.reader.specs.Words.{word}
-use Rattle.reader.specs.Table.{elements, inner, rest, table, next, may_stand}
+use Rattle.reader.specs.Table.{elements, inner, table, next, may_stand}
 use Rattle.reader.specs.Scan.{Goes, Stops}
 use Rattle.reader.specs.Begin.{share, larger, longest, Begins}
 use Rattle.reader.proofs.Letters.{word-starts}

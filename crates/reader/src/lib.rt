@@ -1,4 +1,6 @@
 // The reader of policies as text: which byte of a text is the first bad one, and whether the text is whole.
+#![tactic(auto)]
+
 mod attribute;
 mod context;
 mod element;

@@ -1,4 +1,4 @@
-// "The reader holds its text and position together". Thin functions over it are proved by hand; `read_tag` serves every other caller.
+// "The reader holds its text and position together". `read_tag` serves every other caller.
 ghost use Rattle.std.specs.Prelude.{◌≡◌};
 ghost use Rattle.reader.specs.Read.{ReadsTag};
 

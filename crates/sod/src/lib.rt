@@ -1,4 +1,6 @@
 // The boundary for other languages: the eight entry points as C functions, and one struct by value. include/sod.h says what a caller owes.
+#![tactic(auto)]
+
 ghost use Rattle.std.specs.Prelude.{◌≡◌};
 ghost use Rattle.format.specs.Calls.{check_policy, check_table, make_table};
 ghost use Rattle.judge.specs.Close.{close as close_of};

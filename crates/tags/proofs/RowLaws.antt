@@ -1,6 +1,6 @@
 -- Which row a beginning is, looked for row by row, and what a row says.
 -- Assumes nothing.
-use Prim.Native.Nat.{ℕ, zero, suc, ◌+◌, ◌≤◌, ◌<◌}
+use Prim.Native.Nat.{ℕ, suc, ◌+◌, ◌≤◌, ◌<◌}
 use native.Mathlib.Omega.{arith}
 use native.Mathlib.Numerals.{add-one}
 use mathlib.Core.Path.{◌≡◌, refl, ◌∙◌}
@@ -68,12 +68,3 @@ saying-row p one two = saying-place p (rows one two)
 pub no_row : (k : ℕ) (one two : List ℕ) → 16 ≤ k → said_by k one two ≡ other
 unfolding said_by rows
 no_row k one two h = get_or-eq_default (map (λ (r : Row). r.says) (rows one two)) other h
-
--- a number that is none of 0, 1, .., n - 1, as a match has it
-abbrev pub NoneBelow : ℕ → ℕ → Type 0
-NoneBelow zero x = Unit {0}
-NoneBelow (suc n) x = NoneBelow n x × (x ≡ n → ⊥)
-
-pub none_below : (n x : ℕ) → NoneBelow n x → n ≤ x
-none_below zero x h = omega arith
-none_below (suc n) x h = omega (arith, none_below n x h.0, h.1)

@@ -1,4 +1,6 @@
 // What the tags of a text say.
+#![tactic(auto)]
+
 pub mod cut;
 pub mod number;
 pub mod rows;

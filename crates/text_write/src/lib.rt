@@ -1,4 +1,6 @@
 // A policy's rules written as text, in the one spelling of W5.
+#![tactic(auto)]
+
 pub mod exclusion;
 pub mod put;
 pub mod rule;

@@ -1,7 +1,9 @@
 // The trial run of document 01, from standard input to standard output.
-use libc::STDIN_FILENO;
+#![tactic(auto)]
+
+use std::io;
 use trial_run::run::trial;
 
-fn main() {
-    trial(STDIN_FILENO);
+fn main(rt: HostRuntime) -> io::Result<()> {
+    trial(&mut rt.reader(), &mut io::writer(&rt))
 }

@@ -12,12 +12,9 @@ use Rattle.words.specs.Lists.{any_below}
 use Rattle.words.specs.First.{first}
 use Rattle.word_laws.proofs.First.{none_first, none-second, none-at, passes-unless}
 use Rattle.word_laws.proofs.Tests.{any_below-at}
-use Rattle.forms.specs.Form.{digit}
 use Rattle.format.specs.Answer.{Refusal, refusal}
 use Rattle.format.specs.Rule.{is_range, Exclusion, Rule}
-use Rattle.xml.specs.Tags.{first_step, last_step}
 use Rattle.xml.specs.Write.{step_text_fault, member_fault, level_names_fault, rule_text_fault}
-use Rattle.xml_laws.proofs.TextTags.{first-step-says, last-step-says}
 
 -- what writing asks of a rule: its names are listed, and of each exclusion m is one digit and the kind one of the two
 pub record Writable (l : List ℕ) (r : Rule) : Type 0 where

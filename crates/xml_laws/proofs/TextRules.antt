@@ -15,13 +15,13 @@ use Rattle.forms.specs.Form.{ascii, digit, is_of}
 use Rattle.format.specs.Rule.{Exclusion, Rule}
 use Rattle.format.specs.Policy.{Policy}
 use Rattle.xml.specs.Names.{good_names}
-use Rattle.xml.specs.Tags.{Tag, end_set, start_rule, first_step, last_step, start_exclusion, end_exclusion}
+use Rattle.xml.specs.Tags.{Tag, end_set, start_rule, start_exclusion, end_exclusion}
 use Rattle.xml.specs.Write.{context_text, member_text, exclusion_text, rule_text, rules_text}
 use Rattle.xml.specs.Write.{member_fault}
 use Rattle.reader.specs.Words.{words, named as name_of_word}
 use Rattle.xml_laws.proofs.TextPieces.{quoted}
 use Rattle.xml_laws.proofs.TextSays.{Says, says_then, says_same, says_row}
-use Rattle.xml_laws.proofs.TextTags.{Inside, last-step-too, plain_tag, one_tag, cardinality_tag, start-set, end-set, start-rule, end-rule, start-roles, start-privileges, end-roles, end-privileges, first-step-says, last-step-says}
+use Rattle.xml_laws.proofs.TextTags.{Inside, last-step-too, plain_tag, one_tag, cardinality_tag, start-set, end-set, start-rule, end-rule, start-roles, start-privileges, end-roles, end-privileges}
 use Rattle.xml_laws.proofs.TextRuleTags.{member_tag, exclusion_tags, rule_tags, rules_tags}
 use Rattle.xml_laws.proofs.TextListed.{Writable, Listed, parts-listed, of-kind}
 use Rattle.xml_laws.proofs.TextSpelling.{context-text, levels-texts}

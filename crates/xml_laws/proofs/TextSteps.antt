@@ -12,7 +12,7 @@ use Rattle.forms.specs.Form.{ascii, of_name}
 use Rattle.format.specs.Answer.{Refusal}
 use Rattle.format.specs.Rule.{Privilege, Step, is_set}
 use Rattle.xml.specs.Names.{role_names, operation_names, target_names, good_names, name_of}
-use Rattle.xml.specs.Tags.{Tag, first_step, last_step, role, privilege}
+use Rattle.xml.specs.Tags.{Tag, first_step, last_step}
 use Rattle.xml.specs.Read.{listed}
 use Rattle.xml.specs.Write.{name_text, attribute_text, step_text, member_text}
 use Rattle.xml.specs.Write.{step_text_fault, member_fault}

@@ -1,1 +1,3 @@
 // Laws of the definitions of xml: proofs alone.
+
+#![tactic(auto)]

@@ -1,0 +1,14 @@
+use mathlib.Core.Path.{sym, ap, ◌∙◌}
+use Rattle.format.specs.Code.{fault_of}
+use Rattle.closing.proofs.Closed.{by-table}
+use Rattle.closing.proofs.calls.close_under.Goals as goal
+
+pub close_context-requires : goal.close_context-requires
+close_context-requires c = record { checked_is = c.requires; table_value = sym c.table_fault-fault.ensures ∙ ap fault_of c.in-Nothing.is }
+
+pub returns-in-At : goal.returns-in-At
+returns-in-At c =
+    by-table _ _ _ c.requires.accepted _ (sym c.table_fault-fault.ensures ∙ ap fault_of c.in-At.is)
+
+pub returns-in-Nothing : goal.returns-in-Nothing
+returns-in-Nothing c = c.close_context.ensures

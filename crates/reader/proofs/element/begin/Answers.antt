@@ -1,0 +1,54 @@
+use native.Mathlib.Omega.{arith}
+use mathlib.Core.Path.{◌≡◌, refl, sym, ◌∙◌}
+use lib.ListN.{drop, length-drop}
+use Rattle.words.specs.Lists.{all_below}
+use Rattle.reader.specs.Table.{elements}
+use Rattle.reader.specs.Begin.{longest}
+use Rattle.reader.proofs.Beginnings.{none_more, longest-more, share-fits, longest-fits, begins-tag, begins-none}
+use Rattle.reader.proofs.element.begin.Goals as goal
+
+pub loop-c-init : goal.loop-c-init
+unfolding longest all_below
+loop-c-init c = (omega arith, (refl, refl))
+
+pub overflow_add-result : goal.overflow_add-result
+overflow_add-result c = let a = c.args in
+    let e = c.share-n.ensures in
+    let l = share-fits a.s (drop a.at a.text.now) c.loop-c.c in
+    let long = length-drop a.at a.text.now in
+    omega arith
+
+pub returns-then-n-length_of : goal.returns-then-n-length_of
+returns-then-n-length_of c = let a = c.args in
+    let l = c.loop-c in
+    let e = c.share-n.ensures in
+    let whole = c.length_of.ensures in
+    rw e (begins-tag a.s c.requires.1 a.text.now a.at c.requires.0 l.c c.loop-c-test.true (sym e ∙ c.if-n-length_of.true ∙ whole))
+
+pub loop-c-preserved : goal.loop-c-preserved
+loop-c-preserved c = let a = c.args in
+    let l = c.loop-c in
+    let u = drop a.at a.text.now in
+    let e = c.share-n.ensures in
+    let test = c.loop-c-test.true in (
+      omega arith,
+      (
+        c.larger-best.ensures ∙ longest-more a.s u l.c c.share-n.result l.best e l.invariant.1.0,
+        none_more a.s u l.c c.share-n.result l.best e l.invariant.1.1 (λ d. c.if-n-length_of.false (d ∙ sym c.length_of.ensures)),
+      ),
+    )
+
+pub overflow_add-result-2 : goal.overflow_add-result-2
+overflow_add-result-2 c = let a = c.args in
+    let l = c.loop-c in
+    let e = l.invariant.1.0 in
+    let fit = longest-fits a.s (drop a.at a.text.now) l.c in
+    let long = length-drop a.at a.text.now in
+    omega arith
+
+pub returns : goal.returns
+returns c = let a = c.args in
+    let l = c.loop-c in
+    let end : l.c ≡ elements = omega arith in
+    let inv = rw end at l.invariant.1 in
+    rw inv.0 (begins-none a.s c.requires.1 a.text.now a.at c.requires.0 inv.1 0)

@@ -1,0 +1,5 @@
+use Rattle.sod.proofs.Left.{left_is}
+use Rattle.sod.proofs.sod_close.Goals as goal
+
+pub returns : goal.returns
+returns c = left_is _ _ _ _ c.reply_of.ensures c.close.ensures

@@ -1,0 +1,5 @@
+use Rattle.sod.proofs.Left.{converted_is}
+use Rattle.sod.proofs.sod_read_rules.Goals as goal
+
+pub returns : goal.returns
+returns c = converted_is _ _ _ _ c.converted_of.ensures c.read_rules.ensures

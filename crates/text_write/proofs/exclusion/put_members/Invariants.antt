@@ -1,0 +1,16 @@
+use Prim.Native.Nat.{◌+◌, ◌*◌, ◌≤◌}
+use mathlib.Core.Path.{◌≡◌}
+use lib.ListN.{length}
+use Rattle.format.specs.Layout.{member_bytes}
+use Rattle.format.specs.Rule.{privilege_at}
+use Rattle.xml.specs.Write.{member_text}
+use Rattle.text_write.specs.Lost.{member_lost}
+use Rattle.text_write.specs.Pieces.{most_pair_bytes}
+use Rattle.text_write.proofs.Laying.{Row}
+use Rattle.text_write.proofs.exclusion.put_members.Given as goal
+
+abbrev pub invariant-loop-i : goal.invariant-loop-i
+invariant-loop-i l =
+    (l.i ≤ l.n)
+    × ((length l.output ≡ length l.initial.output)
+    × Row most_pair_bytes (λ j. member_text l.list l.kind (privilege_at l.b (l.at + member_bytes * j))) (λ j. member_lost l.list l.kind (privilege_at l.b (l.at + member_bytes * j))) l.initial.output l.initial.pen l.i l.output l.pen)

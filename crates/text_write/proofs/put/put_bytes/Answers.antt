@@ -1,0 +1,25 @@
+use mathlib.Core.Path.{◌≡◌, ◌∙◌}
+use native.Mathlib.Omega.{arith}
+use Rattle.text_write.specs.Laid.{laid}
+use Rattle.text_write.proofs.Laying.{laid_more}
+use borrow.Author.Rules.{rules}
+use Rattle.text_write.proofs.put.put_bytes.Goals as goal
+
+pub loop-i-init : goal.loop-i-init
+unfolding laid
+loop-i-init c = search rules
+
+pub loop-i-preserved : goal.loop-i-preserved
+loop-i-preserved c =
+    let l = c.loop-i in
+    let a = c.args in (
+      omega arith,
+      c.put_byte.auto.output ∙ l.invariant.1,
+      laid_more a.output.now a.s.now a.at a.from l.i (omega arith) l.invariant.2 c.put_byte.ensures,
+    )
+
+pub shape_of-output : goal.shape_of-output
+shape_of-output c = c.loop-i.invariant.1
+
+pub returns : goal.returns
+returns c = let e : c.loop-i.i ≡ c.args.n = omega arith in rw (← e) c.loop-i.invariant.2

@@ -1,0 +1,5 @@
+use Rattle.text_write.proofs.Turns.{Turn}
+use Rattle.text_write.proofs.text.put_rules.Given as goal
+
+abbrev pub invariant-loop-k : goal.invariant-loop-k
+invariant-loop-k l = Turn l.list l.policy l.initial.output l.initial.pen l.rules l.k l.output l.pen
