@@ -3,7 +3,7 @@
 use Rattle.std.specs.Prelude.{ℕ, ◌*◌, ◌/◌, Bool, ◌&&◌, List, ◌++◌, length, take, eqb, leb}
 use Rattle.words.specs.Bytes.{u16_at, u32_at, bytes4, part}
 use Rattle.words.specs.Sums.{Sums, sums, words}
-use Rattle.format.specs.Layout.{block_bytes, check_at, check_bat}
+use Rattle.format.specs.Layout.{block_bytes, check_at, check_b_at}
 
 -- how many whole blocks an image has
 abbrev pub blocks : List ℕ → ℕ
@@ -33,7 +33,7 @@ check_of b = sums (words (take check_at b))
 
 -- "The block stores a, then b."
 unfoldable pub good_check : List ℕ → Bool
-good_check b = eqb (check_of b).a (u32_at b check_at) && eqb (check_of b).b (u32_at b check_bat)
+good_check b = eqb (check_of b).a (u32_at b check_at) && eqb (check_of b).b (u32_at b check_b_at)
 
 -- the bytes of two sums, as a block stores them
 unfoldable pub sum_bytes : Sums → List ℕ

@@ -11,8 +11,8 @@ block_bytes = 512
 abbrev pub check_at : ℕ
 check_at = 504
 
-abbrev pub check_bat : ℕ
-check_bat = 508
+abbrev pub check_b_at : ℕ
+check_b_at = 508
 
 -- "kind (1 rule, 3 permission)"; "Table: 1 to 128 blocks, kind 2"
 abbrev pub rule_kind : ℕ
@@ -162,8 +162,8 @@ entry_pad_at = 22
 abbrev pub stamp_at : ℕ
 stamp_at = 16
 
-abbrev pub stamp_bat : ℕ
-stamp_bat = 20
+abbrev pub stamp_b_at : ℕ
+stamp_b_at = 20
 
 -- "15 records from byte 24"
 abbrev pub records_at : ℕ

@@ -8,7 +8,7 @@ use Rattle.words.specs.First.{◌or_else◌, unless, first}
 use Rattle.words.specs.Bytes.{u16_at, u32_at, bytes2, bytes4, zeros, part, zero_from, bit}
 use Rattle.words.specs.Sums.{Sums}
 use Rattle.format.specs.Answer.{Refusal, refusal}
-use Rattle.format.specs.Layout.{table_kind, table_blocks, most_rules, count_at, spare_at, spare_bytes, stamp_at, stamp_bat}
+use Rattle.format.specs.Layout.{table_kind, table_blocks, most_rules, count_at, spare_at, spare_bytes, stamp_at, stamp_b_at}
 use Rattle.format.specs.Layout.{request_bytes, record_bytes, records_at, block_records}
 use Rattle.format.specs.Block.{blocks, block, kind, number, total, good_length, good_check, sum_bytes, sealed}
 use Rattle.format.specs.Request.{Request, good_request}
@@ -71,7 +71,7 @@ good_table_header s k =
 
 -- "16-23 the stamp, a then b"
 unfoldable pub good_stamp : Sums → List ℕ → Bool
-good_stamp t b = eqb (u32_at b stamp_at) t.a && eqb (u32_at b stamp_bat) t.b
+good_stamp t b = eqb (u32_at b stamp_at) t.a && eqb (u32_at b stamp_b_at) t.b
 
 -- block k: "12: check. 13: .. 14: stamp. 15: record", with "block from 0, then record from 1 (0 if none)"
 unfoldable pub table_block_fault : Policy → Sums → List ℕ → ℕ → Option Refusal
