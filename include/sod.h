@@ -16,7 +16,7 @@
  *
  * Build, on x86-64 Linux, in the root of the repository:
  *
- *     rt staticlib sod
+ *     tools/archives sod
  *     gcc -Iinclude examples/c/session.c target/staticlib/libsod.a -o target/session
  *
  * or, for a language that loads libraries, one that is shared:

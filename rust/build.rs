@@ -1,5 +1,5 @@
 //! Links the proved engine's archive, libsod.a: that of the folder SOD_LIB_DIR, an absolute path, or
-//! else of target/staticlib in the repository's root, where `rt staticlib sod` writes it.
+//! else of target/staticlib in the repository's root, where `tools/archives` writes it.
 
 use std::env;
 use std::path::{Path, PathBuf};
@@ -17,7 +17,7 @@ fn main() {
     println!("cargo::rerun-if-changed={}", archive.display());
     if !archive.exists() {
         println!(
-            "cargo::error=the engine {} is not there: run `rt staticlib sod` in the repository's \
+            "cargo::error=the engine {} is not there: run `tools/archives` in the repository's \
              root, or name the folder that has libsod.a by SOD_LIB_DIR",
             archive.display()
         );

@@ -1,25 +1,19 @@
 -- What the three checks come to, by whether a row applies.
 -- Assumes nothing.
-use Prim.Native.Nat.{ℕ, ◌+◌, ◌*◌, ◌/◌, ◌≤◌, ◌<◌}
-use mathlib.Core.Path.{◌≡◌, refl, sym, ap, ◌∙◌}
-use mathlib.Core.Bool.{Bool, true, false, ◌&&◌}
+use Prim.Native.Nat.{ℕ, ◌≤◌}
+use mathlib.Core.Path.{◌≡◌}
+use mathlib.Core.Bool.{true, false}
 use mathlib.Core.List.{List, []}
 use mathlib.Core.Option.{none, some}
 use native.Mathlib.Omega.{arith}
-use borrow.Author.Tests.{eqb-true, leb-true}
 use lib.ListN.{length, get_or}
 use mir.Val.{Fits}
 use mir.Syntax.{w8}
 use Rattle.format_laws.proofs.Accepted.{accepted-records, accepted-length}
 use Rattle.table_write.proofs.SliceBytes.{slice-bytes}
-use lib.Seq.{take_all}
-use lib.Dec.{eqb, leb}
-use Rattle.policy_check.proofs.Lengths.{Blocked, good-blocked, policy-blocked}
-use Rattle.words.specs.Bytes.{part}
-use Rattle.words.specs.Sums.{Sums, sums, words}
-use Rattle.word_laws.proofs.First.{none_first, passes-unless, none-or_else, unless-passes, unless-fails}
-use Rattle.word_laws.proofs.Tests.{both_first, both-second}
-use Rattle.format.specs.Answer.{Answer, accept, refuse, Refusal, refusal, accepting, refusing}
+use Rattle.words.specs.Sums.{Sums}
+use Rattle.word_laws.proofs.First.{none-or_else, unless-passes, unless-fails}
+use Rattle.format.specs.Answer.{accept, refuse, Refusal, refusal, accepting, refusing}
 use Rattle.format.specs.Layout.{capacity}
 use Rattle.format.specs.Block.{blocks, good_length}
 use Rattle.format.specs.Policy.{policy_fault, rule_count, stamp}

@@ -1,2 +1,4 @@
 // What a closing leaves of the records of a table.
+#![tactic(auto)]
+
 pub mod closing;

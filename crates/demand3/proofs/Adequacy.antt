@@ -9,7 +9,7 @@ use Rattle.words.specs.Lists.{keep}
 use Rattle.word_laws.proofs.Every.{Every, every-weaken, every-forall}
 use Rattle.word_laws.proofs.Tests.{both_first}
 use Rattle.format.specs.Policy.{Policy}
-use Rattle.register.specs.Run.{Event, Entry, entries_of}
+use Rattle.register.specs.Run.{Event, entries_of}
 use Rattle.register.specs.Register.{run_of, is_in, lies}
 use Rattle.demand3.proofs.Found.{found-kept}
 use Rattle.demand3.proofs.Lies.{stands, run_lies}

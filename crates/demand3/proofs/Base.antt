@@ -1,7 +1,7 @@
 -- Document 01's own words: on every list without a closing a run is the one that they give (`same_runs`), and its demand 3, over decisions alone, follows
 -- from demand 3 over decisions and closings (`base-demand-3`). crates/register/specs/Base.antt says in plain words what is claimed.
 -- Assumes nothing.
-use Prim.Native.Nat.{ℕ, ◌≤◌}
+use Prim.Native.Nat.{ℕ}
 use mathlib.Core.Path.{◌≡◌, refl, sym, ap, subst, ◌∙◌}
 use mathlib.Core.Bool.{Bool, true, false, cond, not, ◌||◌, or-false, or-true}
 use mathlib.Core.List.{List, [], ◌∷◌, ◌++◌, map, append-nil}
@@ -9,16 +9,16 @@ use mathlib.Core.Option.{Option, none, some}
 use Rattle.words.specs.Lists.{keep, any_of, non_empty}
 use Rattle.word_laws.proofs.Keep.{snoc-induction, keep_append, any_of-append, map-append}
 use Rattle.format.specs.Answer.{Answer, accept, grant, refuse, Refusal, refusing}
-use Rattle.format.specs.Layout.{capacity, table_blocks}
+use Rattle.format.specs.Layout.{capacity}
 use Rattle.format.specs.Request.{Request}
 use Rattle.format.specs.Rule.{Rule, is_set}
-use Rattle.format.specs.Policy.{Policy, policy_fault, policy_of}
+use Rattle.format.specs.Policy.{Policy, policy_of}
 use Rattle.judge.specs.Verdict.{is_first, is_last}
 use Rattle.register.specs.Run.{Event, was_granted, Entry, entries_of, of_place, joins, after_grant, run}
 use Rattle.register.specs.Register.{run_of, register_fault, granted, register_step}
 use Rattle.register.specs.Calls.{deciding, call_step, register_call}
 use Rattle.register.specs.Demand3.{AtGrant, AtEvery, StepCounted, NobodyEver, Kept, Demand3}
-use Rattle.register.specs.Base.{after_latest, from_earliest, run_in_words, all_granted, SameRuns, InWords, BaseKept, BaseDemand3}
+use Rattle.register.specs.Base.{after_latest, from_earliest, run_in_words, all_granted, SameRuns, InWords, BaseDemand3}
 use Rattle.demand3.proofs.Calls.{answers-map, states-map, every_map}
 use Rattle.demand3.proofs.Run.{next, entries-nil, entries-snoc, run-nil, run-snoc}
 use Rattle.demand3.proofs.Demand3.{demand-3}

@@ -7,7 +7,6 @@ use mathlib.Core.Bool.{Bool, true, false, cond, not}
 use mathlib.Core.List.{List, [], ◌∷◌, ◌++◌, append-nil}
 use native.Mathlib.Omega.{arith}
 use lib.ListN.{length}
-use Rattle.words.specs.Lists.{keep}
 use Rattle.word_laws.proofs.Every.{Every, empty, more as also, every-all, every_append, every-left, every-right, every-head, every-weaken, every-keep}
 use Rattle.word_laws.proofs.Keep.{snoc-induction}
 use Rattle.format.specs.Request.{Request}

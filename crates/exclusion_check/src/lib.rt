@@ -1,2 +1,4 @@
 // The check of a rule's exclusions.
+#![tactic(auto)]
+
 pub mod exclusion;

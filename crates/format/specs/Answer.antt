@@ -1,6 +1,6 @@
 -- What a call answers: "Numbers of refusal by place", and what acceptance and grant return.
 -- Assumes nothing.
-use Rattle.std.specs.Prelude.{ℕ, List}
+use Rattle.std.specs.Prelude.{ℕ}
 use Rattle.std.proofs.Math.Option.{Option, none, some}
 
 -- a refusal: its number and the two that come "With it", each 0 where the paper has none

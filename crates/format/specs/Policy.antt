@@ -3,7 +3,7 @@
 use Rattle.std.specs.Prelude.{ℕ, ◌+◌, ◌-◌, ◌*◌, Bool, cond, not, ◌&&◌, ◌||◌, eqb, leb, ltb}
 use mathlib.Core.List.{List, [], flatten}
 use Rattle.std.proofs.Math.Option.{Option}
-use Rattle.words.specs.Lists.{all_below, any_below, sum_below, tab}
+use Rattle.words.specs.Lists.{any_below, sum_below, tab}
 use Rattle.words.specs.First.{◌or_else◌, unless, first}
 use Rattle.words.specs.Bytes.{u16_at, zero_from}
 use Rattle.words.specs.Sums.{Sums, sums, words}

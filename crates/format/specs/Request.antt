@@ -1,7 +1,7 @@
 -- "A request is 28 bytes: user (4, from 1), active roles (4, role k is bit k - 1, not zero), operation (2), target (2), four context levels of
 -- type (2), value (2)." A request is its bytes, and what it says is read off them.
 -- Assumes nothing.
-use Rattle.std.specs.Prelude.{ℕ, ◌+◌, ◌-◌, ◌*◌, Bool, true, false, cond, not, ◌&&◌, ◌||◌, List, [], ◌∷◌, length, eqb}
+use Rattle.std.specs.Prelude.{ℕ, ◌+◌, ◌-◌, ◌*◌, Bool, cond, not, ◌&&◌, ◌||◌, List, length, eqb}
 use Rattle.std.proofs.Math.Option.{Option}
 use Rattle.words.specs.Lists.{all_below, sum_below}
 use Rattle.words.specs.First.{◌or_else◌, unless}

@@ -1,1 +1,3 @@
+#![tactic(auto)]
+
 // Laws of the definitions of format: proofs alone.

@@ -1,6 +1,6 @@
 -- Steps 4 and 5 of the judge, and the judgement over a table's records.
 -- Assumes nothing.
-use Rattle.std.specs.Prelude.{ℕ, Bool, cond, not, ◌&&◌, List, [], ◌∷◌, ◌++◌, map, length, leb}
+use Rattle.std.specs.Prelude.{ℕ, Bool, not, ◌&&◌, List, [], ◌∷◌, ◌++◌, map, length, leb}
 use Rattle.std.proofs.Math.Option.{Option}
 use Rattle.words.specs.Lists.{keep, any_of}
 use Rattle.words.specs.First.{◌or_else◌, unless}

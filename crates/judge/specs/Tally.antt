@@ -1,7 +1,7 @@
 -- "3. .. Kind 1: how many member roles appear among all their active roles. Kind 2: each different member counts min(times listed, times done),
 -- summed. At m or more: 32 for kind 1, 33 for kind 2."
 -- Assumes nothing.
-use Rattle.std.specs.Prelude.{ℕ, min, Bool, cond, not, ◌&&◌, List, [], ◌∷◌, ◌++◌, length, eqb, leb}
+use Rattle.std.specs.Prelude.{ℕ, min, Bool, cond, ◌&&◌, List, [], ◌∷◌, ◌++◌, length, eqb, leb}
 use Rattle.words.specs.Lists.{keep, any_of, any_below, sum_below}
 use Rattle.format.specs.Request.{Request, user, operation, target, has_role}
 use Rattle.format.specs.Rule.{Exclusion, Privilege, same_privilege}

@@ -1,8 +1,8 @@
 -- The rules under which two requests share a run place, of a set; and the blocks that have a marked record there, for fewer rules.
 -- Assumes nothing.
-use Prim.Native.Nat.{ℕ, ◌-◌, ◌<◌}
-use mathlib.Core.Path.{◌≡◌, refl, sym, ap, ap₂, ◌∙◌}
-use mathlib.Core.Bool.{Bool, true, false, cond, not, ◌&&◌, ◌||◌, and_assoc, and-true, or-false, false≢true}
+use Prim.Native.Nat.{ℕ, ◌-◌}
+use mathlib.Core.Path.{◌≡◌, refl, sym, ap, ◌∙◌}
+use mathlib.Core.Bool.{Bool, true, false, cond, not, ◌&&◌, and_assoc, and-true, or-false, false≢true}
 use mathlib.Core.List.{List}
 use lib.Bits.{bit_and, bit_or, and_zero_r}
 use lib.Dec.{eqb}

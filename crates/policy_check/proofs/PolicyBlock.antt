@@ -1,11 +1,11 @@
 -- The fault of a policy's block, step by step: its check, its header, and then the rule or the permissions. And what is carried
 -- from block to block: whether a permission block came, and how many rules.
 -- Assumes nothing.
-use Prim.Native.Nat.{ℕ, suc, ◌+◌, ◌-◌, ◌*◌}
-use mathlib.Core.Path.{◌≡◌, refl, sym, ap, ◌∙◌}
+use Prim.Native.Nat.{ℕ, ◌+◌, ◌-◌, ◌*◌}
+use mathlib.Core.Path.{◌≡◌, refl, sym, ◌∙◌}
 use mathlib.Core.Bool.{Bool, true, false, cond, ◌||◌}
 use mathlib.Core.List.{List}
-use mathlib.Core.Option.{Option, some}
+use mathlib.Core.Option.{some}
 use native.Mathlib.Numerals.{add-one}
 use native.Mathlib.Omega.{arith}
 use lib.ListN.{take, drop}
@@ -13,7 +13,7 @@ use lib.Dec.{eqb}
 use borrow.Author.Tests.{eq-eqb, ne_eqb}
 use Rattle.words.specs.Lists.{any_below, sum_below}
 use Rattle.word_laws.proofs.First.{test-passes, test-fails}
-use Rattle.format.specs.Answer.{Refusal, refusal}
+use Rattle.format.specs.Answer.{refusal}
 use Rattle.format.specs.Layout.{permission_kind}
 use Rattle.format.specs.Block.{block, blocks, kind, good_check}
 use Rattle.format.specs.Rule.{rule_fault}

@@ -1,3 +1,5 @@
+#![tactic(auto)]
+
 pub mod block;
 pub mod permission;
 pub mod policy;

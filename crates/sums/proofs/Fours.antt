@@ -1,11 +1,11 @@
 -- Four states side by side come to the one that takes the words in turn: the law behind `sum_words`.
 -- Every state is a sum that never wraps, wrapped: so the law is one of plain sums, and one step of it adds four words.
 -- Assumes nothing.
-use Rattle.std.proofs.Common.{◌≡◌, ℕ, zero, suc, ◌+◌, ◌-◌, ◌*◌, ◌/◌, ◌%◌, ◌<◌, ◌≤◌, List, length, sym, refl, ap, ◌∙◌, ap₂, mul-suc, add-one, arith}
-use native.Mathlib.Numerals.{add-two, add-three, add-four}
+use Rattle.std.proofs.Common.{◌≡◌, ℕ, zero, suc, ◌+◌, ◌-◌, ◌*◌, ◌/◌, ◌<◌, ◌≤◌, List, length, refl, ap, ◌∙◌, ap₂, mul-suc, add-one, arith}
+use native.Mathlib.Numerals.{add-two, add-three}
 use Rattle.words.specs.Bytes.{u32_at, part}
 use Rattle.words.specs.Sums.{Sums, wrap, add_word, add_words, sums, words}
-use Rattle.sums.specs.Code.{word_from, Fours, add_four, fours, together}
+use Rattle.sums.specs.Code.{word_from, add_four, fours, together}
 use Rattle.word_laws.proofs.Sums.{sums-more}
 
 -- ---- sums that never wrap

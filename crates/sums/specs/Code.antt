@@ -1,6 +1,6 @@
 -- What the values of the code stand for.
 -- Assumes nothing.
-use Rattle.std.specs.Prelude.{ℕ, zero, suc, ◌+◌, ◌-◌, ◌*◌, ◌%◌, List}
+use Rattle.std.specs.Prelude.{ℕ, zero, suc, ◌+◌, ◌-◌, ◌*◌, List}
 use Rattle.words.specs.Bytes.{u32_at}
 use Rattle.words.specs.Sums.{Sums, wrap, add_word}
 use Rattle.sums.specs.declared.sum.Sum.{Sum}

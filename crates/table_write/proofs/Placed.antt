@@ -8,23 +8,23 @@ use mathlib.Core.Path.{◌≡◌, refl, sym, ap, ap₂, ◌∙◌}
 use mathlib.Core.Bool.{Bool, true, false, cond, not, ◌&&◌, ◌||◌, false≢true, and-true, and-false, or-true}
 use mathlib.Core.List.{List, ◌++◌}
 use borrow.Author.Tests.{eqb-true, eqb-false, eq-eqb, ne_eqb, lt-leb, le-leb, lt-ltb, le-ltb}
-use lib.ListN.{length, take, drop, take-append-drop}
+use lib.ListN.{length, drop, take-append-drop}
 use lib.Seq.{take-add, drop-drop}
 use lib.Dec.{eqb, leb, ltb}
 use Rattle.words.specs.Lists.{tab}
 use Rattle.words.specs.Sums.{Sums}
-use Rattle.words.specs.Bytes.{u32_at, bytes4, part}
+use Rattle.words.specs.Bytes.{bytes4, part}
 use Rattle.word_laws.proofs.Below.{sum_below-same}
 use Rattle.word_laws.proofs.Every.{Every}
 use Rattle.word_laws.proofs.Bytes.{Byte, bytes4-u32_at}
 use Rattle.word_laws.proofs.Same.{same_refl}
 use Rattle.word_laws.proofs.Tests.{neither-first, neither-second}
 use Rattle.format.specs.Layout.{block_bytes, block_records, record_bytes, request_bytes, capacity}
-use Rattle.format.specs.Block.{blocks, block}
+use Rattle.format.specs.Block.{block}
 use Rattle.format.specs.Table.{Record, record_at}
 use Rattle.format.specs.Records.{record_start, record_from, record_here, records_here}
 use Rattle.format.specs.Altered.{same_record, altered, altered_blocks}
-use Rattle.format_laws.proofs.Altered.{record-refl, record-eq, altered-number, altered-place, altered-none}
+use Rattle.format_laws.proofs.Altered.{record-eq, altered-number, altered-place, altered-none}
 use Rattle.fields.specs.declared.blocks.BlockSet.{BlockSet}
 use Rattle.fields.specs.Code.{HasRoom, has_block, no_block}
 use Rattle.fields.proofs.BlockSets.{no-block}

@@ -1,6 +1,6 @@
 -- What the values of the code stand for.
 -- Assumes nothing.
-use Rattle.std.specs.Prelude.{ℕ, ◌+◌, ◌*◌, ◌-◌, ◌<◌, min, ◌≡◌, Bool, false, true, cond, length, get_or, eqb}
+use Rattle.std.specs.Prelude.{ℕ, ◌+◌, ◌*◌, ◌-◌, ◌<◌, min, ◌≡◌, Bool, cond, length, get_or, eqb}
 use mathlib.Core.List.{List, [], ◌∷◌, flatten, map}
 use Rattle.words.specs.Lists.{keep, any_of, any_below, sum_below}
 use Rattle.words.specs.Bytes.{u16_at, bit}

@@ -1,4 +1,6 @@
 // Step 3 of the judge: the tally of an exclusion.
+#![tactic(auto)]
+
 pub mod counting;
 pub mod past;
 pub mod tallies;

@@ -1,9 +1,9 @@
 -- Laws of `zero_from`: zero bytes side by side, zero fields, and rows of zero parts.
 -- Assumes nothing.
-use Prim.Native.Nat.{ℕ, zero, suc, ◌+◌, ◌-◌, ◌*◌, ◌≤◌, ◌<◌}
+use Prim.Native.Nat.{ℕ, zero, suc, ◌+◌, ◌*◌}
 use native.Mathlib.Nat.{add-zero, add-suc, add_assoc, mul-zero, mul-suc}
 use native.Mathlib.Omega.{arith}
-use mathlib.Core.Path.{◌≡◌, refl, sym, ap, ◌∙◌}
+use mathlib.Core.Path.{◌≡◌, refl, sym}
 use mathlib.Core.Bool.{Bool, true, false, ◌&&◌, ◌||◌, and_assoc, and-true}
 use mathlib.Core.List.{List}
 use lib.ListN.{get_or}
@@ -11,7 +11,7 @@ use lib.Dec.{eqb, ltb}
 use borrow.Author.Tests.{eq-eqb, ne_eqb, eqb-true, eqb-false, le-ltb, lt-ltb}
 use Rattle.words.specs.Lists.{all_below}
 use Rattle.words.specs.Bytes.{u16_at, zero_from}
-use Rattle.word_laws.proofs.Tests.{all_below-true, all_below-same}
+use Rattle.word_laws.proofs.Tests.{all_below-true}
 
 -- bytes that are zero, and those behind them
 pub zero_from-add : (s : List ℕ) (at n m : ℕ) → zero_from s at (n + m) ≡ zero_from s at n && zero_from s (at + n) m

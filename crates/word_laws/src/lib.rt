@@ -1,1 +1,3 @@
+#![tactic(auto)]
+
 // Laws of the definitions of words: proofs alone.

@@ -1,6 +1,6 @@
 -- Numbers in bytes: "All fields are unsigned, little-endian". A byte string is a list of numbers, one a byte.
 -- Assumes nothing.
-use Rattle.std.specs.Prelude.{ℕ, zero, suc, ◌+◌, ◌*◌, ◌/◌, ◌%◌, ◌^◌, Bool, cond, List, [], ◌∷◌, ◌++◌, get_or, take, drop, replicate, eqb}
+use Rattle.std.specs.Prelude.{ℕ, zero, suc, ◌+◌, ◌*◌, ◌/◌, ◌%◌, ◌^◌, Bool, cond, List, [], ◌∷◌, get_or, take, drop, replicate, eqb}
 use Rattle.words.specs.Lists.{all_below}
 
 -- the fields of 1, 2 and 4 bytes at a byte

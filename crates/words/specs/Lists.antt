@@ -1,6 +1,6 @@
 -- Lists and tests: the few notions that the definitions above this crate share.
 -- Assumes nothing.
-use Rattle.std.specs.Prelude.{ℕ, zero, suc, ◌+◌, Bool, true, false, cond, not, ◌&&◌, ◌||◌, List, [], ◌∷◌, eqb}
+use Rattle.std.specs.Prelude.{ℕ, zero, suc, ◌+◌, Bool, true, false, cond, ◌&&◌, ◌||◌, List, [], ◌∷◌, eqb}
 
 -- the elements that pass the test, in their order
 unfoldable pub keep : {A : Type 0} → (A → Bool) → List A → List A

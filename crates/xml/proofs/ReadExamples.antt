@@ -1,7 +1,7 @@
 -- Worked examples of reading: what tags say, what they give, where names and limits are tested, and the image. Each is broken by one of this crate's
 -- must-fail edits.
 -- Assumes nothing.
-use Prim.Native.Nat.{ℕ, ◌*◌}
+use Prim.Native.Nat.{ℕ}
 use Prim.Native.String.{String}
 use mathlib.Core.Path.{◌≡◌, refl}
 use mathlib.Core.List.{List, [], ◌∷◌, ◌++◌, map, flatten}

@@ -1,7 +1,7 @@
 -- Worked examples of writing: the one spelling, and where names and ranges are tested. Each is broken by one of this crate's must-fail edits.
 -- Assumes nothing.
 use mathlib.Core.Path.{◌≡◌, refl}
-use mathlib.Core.List.{List, [], ◌∷◌, ◌++◌, map}
+use mathlib.Core.List.{[], ◌∷◌, ◌++◌, map}
 use mathlib.Core.Option.{none, some}
 use lib.ListN.{replicate}
 use Rattle.format.specs.Answer.{refusal}

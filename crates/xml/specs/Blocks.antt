@@ -6,7 +6,7 @@ use Rattle.words.specs.Lists.{tab}
 use Rattle.words.specs.Bytes.{bytes2, bytes4, zeros, part}
 use Rattle.format.specs.Layout.{check_at, rule_kind, most_levels, most_exclusions, most_members, rule_spare_bytes, rule_tail_bytes}
 use Rattle.format.specs.Block.{blocks, block, sealed}
-use Rattle.format.specs.Rule.{Level, Privilege, Step, Exclusion, Rule}
+use Rattle.format.specs.Rule.{Level, Privilege, Exclusion, Rule}
 use Rattle.format.specs.Policy.{rule_count}
 
 -- "type (2), mark (1), zero (1), value (2), zero (2)"

@@ -1,7 +1,7 @@
 -- What a text's tags say. White space stands in no name, so it is left out first. Neither `>` nor `"` stands in a name or a context, so a tag ends at
 -- the next `>`, and its values stand between double quotes.
 -- Assumes nothing.
-use Rattle.std.specs.Prelude.{ℕ, Bool, cond, not, List, [], ◌∷◌, map, get_or, eqb}
+use Rattle.std.specs.Prelude.{ℕ, cond, not, List, [], ◌∷◌, map, get_or, eqb}
 use Prim.Native.String.{String}
 use Rattle.words.specs.Lists.{keep, same_list}
 use Rattle.forms.specs.Form.{ascii, space, is_of}

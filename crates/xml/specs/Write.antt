@@ -1,7 +1,7 @@
 -- Writing: "Also write any accepted policy's rules as text, in one fixed spelling: type="role", attributes in section 3's order with one space before each, no
 -- other white space, m as one digit."
 -- Assumes nothing.
-use Rattle.std.specs.Prelude.{ℕ, ◌+◌, Bool, cond, not, eqb}
+use Rattle.std.specs.Prelude.{ℕ, ◌+◌, cond, not, eqb}
 use Prim.Native.String.{String}
 use mathlib.Core.List.{List, [], ◌∷◌, ◌++◌, flatten}
 use Rattle.std.proofs.Math.Option.{Option, none, some}

@@ -1,1 +1,3 @@
+#![tactic(auto)]
+
 // Policies as text: definitions. Their laws and the code are above this crate.

@@ -7,14 +7,11 @@ use mathlib.Core.Path.{◌≡◌, refl}
 use mathlib.Core.List.{List, [], ◌∷◌, ◌++◌, map}
 use mathlib.Core.Option.{Option, none, some}
 use lib.ListN.{replicate}
-use Rattle.words.specs.Bytes.{zeros}
 use Rattle.format.specs.Answer.{Refusal, refusal, Answer, accept, refuse, Outcome}
-use Rattle.format.specs.Block.{sealed}
 use Rattle.format.specs.Rule.{Rule}
 use Rattle.format.specs.Policy.{policy_of, policy_fault}
-use Rattle.forms.specs.Form.{ascii}
 use Rattle.xml_calls.specs.Calls.{resulting, read_fault, read_image, read_rules, write_fault, write_rules}
-use Rattle.xml.proofs.Pieces.{policies, opened, said, entry, list, range, unset, roles, rule, policy, body, permissions, plain_rule}
+use Rattle.xml.proofs.Pieces.{policies, opened, said, entry, range, unset, roles, rule, policy, permissions, plain_rule}
 
 -- what these examples compute with, beside what the pieces bring
 calls : Unit {0}

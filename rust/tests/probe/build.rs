@@ -16,7 +16,7 @@ fn main() {
     println!("cargo::rerun-if-changed={}", archive.display());
     if !archive.exists() {
         println!(
-            "cargo::error=the tests' probe {} is not there: run `rt staticlib probe` in the \
+            "cargo::error=the tests' probe {} is not there: run `tools/archives` in the \
              repository's root (the wrapper itself does not need it)",
             archive.display()
         );

@@ -1,6 +1,5 @@
 use mathlib.Core.Path.{sym, ◌∙◌}
 use native.Mathlib.Omega.{arith}
-use borrow.Author.Tests.{not-true, not-false}
 use Rattle.policy_check.proofs.Lengths.{good-blocked}
 use Rattle.checks.proofs.Checked.{fresh-length, fresh-written}
 use Rattle.checks.proofs.calls.fresh_reply.Goals as goal

@@ -1,4 +1,4 @@
-use Prim.Native.Nat.{ℕ, ◌+◌, ◌-◌, ◌≤◌}
+use Prim.Native.Nat.{ℕ, ◌+◌, ◌-◌}
 use native.Mathlib.Omega.{arith}
 use mathlib.Core.Path.{◌≡◌, sym, ap, ap₂, ◌∙◌}
 use mathlib.Core.List.{[], ◌∷◌}
@@ -7,7 +7,6 @@ use Rattle.format.specs.Records.{record_here, records_here}
 use Rattle.clearing.specs.Cleared.{left_by}
 use Rattle.clearing.proofs.Left.{left-by-one, rest-start, rest_more}
 use Rattle.clearing.proofs.Settled.{left-count}
-use borrow.Author.Rules.{rules}
 use Rattle.clearing.proofs.room.count_kept.Goals as goal
 
 pub loop-i-init : goal.loop-i-init

@@ -1,12 +1,8 @@
-use Prim.Native.Nat.{ℕ, ◌+◌, ◌-◌, ◌≤◌}
-use native.Mathlib.Omega.{arith}
-use mathlib.Core.Path.{◌≡◌, sym, ap, ap₂, ◌∙◌}
-use mathlib.Core.List.{[], ◌∷◌}
-use lib.ListN.{length, length-append}
-use Rattle.format.specs.Records.{record_here, records_here}
+use Prim.Native.Nat.{◌-◌, ◌≤◌}
+use mathlib.Core.Path.{◌≡◌}
+use lib.ListN.{length}
+use Rattle.format.specs.Records.{records_here}
 use Rattle.clearing.specs.Cleared.{left_by}
-use Rattle.clearing.proofs.Left.{left-by-one, rest-start, rest_more}
-use Rattle.clearing.proofs.Settled.{left-count}
 use Rattle.clearing.proofs.room.count_kept.Given as goal
 
 abbrev pub invariant-loop-i : goal.invariant-loop-i

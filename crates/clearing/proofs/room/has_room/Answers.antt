@@ -7,7 +7,6 @@ use Rattle.format.specs.Records.{records_here}
 use Rattle.clearing.specs.Cleared.{after_by}
 use Rattle.clearing.proofs.Left.{length-here}
 use Rattle.clearing.proofs.After.{after-few, counted-room, recorded-none, recorded-one}
-use borrow.Author.Rules.{rules}
 use Rattle.clearing.proofs.room.has_room.Goals.{After-is_empty}
 use Rattle.clearing.proofs.room.has_room.Goals as goal
 

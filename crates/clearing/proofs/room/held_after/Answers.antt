@@ -6,7 +6,6 @@ use borrow.Author.Tests.{eqb-true, eqb-false}
 use Rattle.format.specs.Records.{records_here}
 use Rattle.clearing.proofs.Left.{length-here}
 use Rattle.clearing.proofs.After.{after_none, after-count, left-few}
-use borrow.Author.Rules.{rules}
 use Rattle.clearing.proofs.room.held_after.Goals as goal
 
 pub returns-then-is_empty : goal.returns-then-is_empty

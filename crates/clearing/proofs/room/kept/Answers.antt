@@ -4,7 +4,6 @@ use borrow.Author.Tests.{eqb-true}
 use Rattle.format.specs.Records.{records_here}
 use Rattle.clearing.specs.Cleared.{left_by}
 use Rattle.clearing.proofs.Left.{length-here, left-all}
-use borrow.Author.Rules.{rules}
 use Rattle.clearing.proofs.room.kept.Goals as goal
 
 pub returns-then-is_empty : goal.returns-then-is_empty

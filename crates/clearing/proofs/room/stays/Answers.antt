@@ -5,7 +5,6 @@ use borrow.Author.Tests.{eqb-true, eqb-false}
 use Rattle.format.specs.Records.{record_from, record_here}
 use Rattle.clearing.specs.Cleared.{cleared_by}
 use Rattle.clearing.proofs.Left.{left-none, left_one}
-use borrow.Author.Rules.{rules}
 use Rattle.clearing.proofs.room.stays.Goals.{After-cleared_marks}
 use Rattle.clearing.proofs.room.stays.Goals as goal
 

@@ -1,16 +1,9 @@
-use Prim.Native.Nat.{ℕ, ◌-◌, ◌≤◌}
 use native.Mathlib.Omega.{arith}
 use mathlib.Core.Path.{◌≡◌, refl, sym, ap, ◌∙◌}
-use mathlib.Core.List.{List}
-use lib.ListN.{length}
-use Rattle.word_laws.proofs.Every.{Every}
-use Rattle.word_laws.proofs.Bytes.{Byte}
 use Rattle.format.specs.Block.{blocks}
-use Rattle.format.specs.Table.{Record}
 use Rattle.format.specs.Records.{record_from, record_here}
 use Rattle.fields.specs.Code.{HasRoom}
 use Rattle.table_write.proofs.SliceBytes.{slice-bytes}
-use Rattle.clearing.specs.Settling.{Settling, StayIn}
 use Rattle.clearing.proofs.Settled.{settle-stay, settle-move}
 use Rattle.clearing.proofs.settling.pass_records.Goals.{At-loop-i}
 use Rattle.clearing.proofs.settling.pass_records.Goals as goal

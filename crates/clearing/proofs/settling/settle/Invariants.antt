@@ -1,13 +1,6 @@
 use Prim.Native.Nat.{◌-◌, ◌≤◌}
-use native.Mathlib.Omega.{arith}
-use mathlib.Core.Path.{◌≡◌, sym, ◌∙◌}
-use borrow.Author.Tests.{eqb-true}
-use Rattle.fields.specs.Code.{HasRoom}
-use Rattle.table_write.proofs.Placed.{room-placed}
 use Rattle.clearing.specs.Cleared.{left_by}
 use Rattle.clearing.specs.Settling.{Settling}
-use Rattle.clearing.proofs.Left.{left-by-one}
-use Rattle.clearing.proofs.Settled.{settle-start, settle-none, left_here}
 use Rattle.clearing.proofs.settling.settle.Given as goal
 
 abbrev pub invariant-loop-i : goal.invariant-loop-i

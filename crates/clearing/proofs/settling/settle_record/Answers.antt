@@ -9,7 +9,6 @@ use Rattle.table_write.proofs.SliceBytes.{slice-bytes}
 use Rattle.clearing.specs.Cleared.{cleared_by, left_by}
 use Rattle.clearing.proofs.Left.{left-none, left-with}
 use Rattle.clearing.proofs.Settled.{settle-drop, settle-put}
-use borrow.Author.Rules.{rules}
 use Rattle.clearing.proofs.settling.settle_record.Goals.{After-cleared_marks-marks, Else-is_empty}
 use Rattle.clearing.proofs.settling.settle_record.Goals as goal
 

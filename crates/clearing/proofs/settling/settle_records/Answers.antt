@@ -1,10 +1,5 @@
-use Prim.Native.Nat.{ℕ, ◌-◌, ◌≤◌}
 use native.Mathlib.Omega.{arith}
 use mathlib.Core.Path.{◌≡◌, refl, ◌∙◌}
-use mathlib.Core.List.{List}
-use lib.ListN.{length}
-use Rattle.clearing.specs.Cleared.{left_by}
-use Rattle.clearing.specs.Settling.{Settling}
 use Rattle.clearing.proofs.settling.settle_records.Goals as goal
 
 pub loop-i-init : goal.loop-i-init

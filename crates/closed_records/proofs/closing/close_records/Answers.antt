@@ -1,15 +1,12 @@
-use Prim.Native.Nat.{ℕ, ◌-◌, ◌+◌, ◌<◌, ◌≤◌}
+use Prim.Native.Nat.{◌+◌}
 use native.Mathlib.Omega.{arith}
 use mathlib.Core.Path.{◌≡◌, refl, ap, ◌∙◌}
-use mathlib.Core.Bool.{true}
 use Rattle.word_laws.proofs.Parts.{part-whole}
 use Rattle.format.specs.Layout.{context_bytes}
 use Rattle.format.specs.Request.{depth_of}
-use Rattle.format.specs.Context.{begins}
 use Rattle.format.specs.Records.{record_here}
 use Rattle.judge.specs.Close.{closed}
 use Rattle.table_write.proofs.Placed.{room-placed}
-use Rattle.clearing.specs.Settling.{Settling}
 use Rattle.closed_records.proofs.Closed.{closed-by-one, closed_none, closed-stay, still-named}
 use Rattle.clearing.proofs.Settled.{settle-start, settle-stay, settle-drop}
 use Rattle.closed_records.proofs.closing.close_records.Goals.{After-depth-levels}

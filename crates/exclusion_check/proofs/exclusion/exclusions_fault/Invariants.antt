@@ -1,9 +1,6 @@
 use Prim.Native.Nat.{◌-◌, ◌≤◌}
-use mathlib.Core.Path.{◌≡◌, sym, ◌∙◌}
-use native.Mathlib.Omega.{arith}
-use borrow.Author.Tests.{not-true, not-false}
+use mathlib.Core.Path.{◌≡◌}
 use Rattle.words.specs.First.{first}
-use Rattle.word_laws.proofs.First.{unless-passes, unless-fails, first-start, first-hit, first_more, first_done}
 use Rattle.exclusion_check.specs.Parts.{exclusion_fault, exclusions_fault}
 use Rattle.exclusion_check.proofs.exclusion.exclusions_fault.Given as goal
 

@@ -1,10 +1,7 @@
-use Prim.Native.Nat.{◌+◌, ◌-◌, ◌*◌, ◌≤◌}
+use Prim.Native.Nat.{◌≤◌}
 use mathlib.Core.Path.{◌≡◌}
-use native.Mathlib.Numerals.{add-one}
-use native.Mathlib.Omega.{arith}
-use Rattle.words.specs.Bytes.{byte_at}
 use Rattle.words.specs.Lists.{all_below}
-use Rattle.format.specs.Rule.{exclusion_at, full_privilege, good_privileges}
+use Rattle.format.specs.Rule.{exclusion_at, full_privilege}
 use Rattle.exclusion_check.proofs.exclusion.good_privileges.Given as goal
 
 abbrev pub invariant-loop-i : goal.invariant-loop-i

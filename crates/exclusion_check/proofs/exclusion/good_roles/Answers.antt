@@ -1,11 +1,10 @@
-use Prim.Native.Nat.{◌+◌, ◌-◌, ◌*◌, ◌≤◌}
+use Prim.Native.Nat.{◌+◌, ◌*◌}
 use mathlib.Core.Path.{◌≡◌}
 use native.Mathlib.Numerals.{add-one}
 use native.Mathlib.Omega.{arith}
 use Rattle.words.specs.Bytes.{byte_at}
 use Rattle.words.specs.Lists.{all_below}
-use Rattle.exclusion_check.specs.Parts.{good_role}
-use Rattle.format.specs.Rule.{exclusion_at, good_roles}
+use Rattle.format.specs.Rule.{good_roles}
 use borrow.Author.Rules.{rules}
 use Rattle.exclusion_check.proofs.exclusion.good_roles.Goals as goal
 

@@ -1,9 +1,9 @@
-use Prim.Native.Nat.{◌+◌, ◌-◌, ◌<◌, ◌≤◌}
+use Prim.Native.Nat.{◌+◌, ◌<◌, ◌≤◌}
 use native.Mathlib.Omega.{arith}
 use mathlib.Core.Path.{sym, ◌∙◌}
 use lib.ListN.{length}
 use Rattle.words.specs.Bytes.{part}
-use Rattle.history.proofs.Turns.{room-few, record-inside, start-few, Passed, pass-start, pass-apart, pass-other, pass-found, pass-end, of-user}
+use Rattle.history.proofs.Turns.{room-few, record-inside, start-few, pass-start, pass-apart, pass-other, pass-found, pass-end, of-user}
 use Rattle.history.proofs.finding.find.Goals.{then-same_user, else-same_user, After-record_start-at, After-same_user, Then-same_user}
 use Rattle.history.proofs.finding.find.Goals as goal
 
@@ -68,14 +68,14 @@ loop-k-preserved c =
     let who = c.user-who.ensures in (
       omega arith,
       elim c.if-same_user.branch [
-      | then-same_user d ↦
-          rw (d.count-is, d.found-is)
-          (pass-found a.each a.fitting.0 a.q.now a.table.now here shared l.invariant.1 some c.or-open.ensures c.with-near.result c.with-near.ensures
-          (of-user a.q.now x c.requires.q_len.0 who c.same_user.ensures d.if-same_user.true) (omega (arith, l.invariant.1.few, l.invariant.1.sized, c.requires.q_len.1)))
-      | else-same_user d ↦
-          rw (d.count-is, d.found-is)
-          (pass-other a.each a.fitting.0 a.q.now a.table.now here shared l.invariant.1 some c.or-open.ensures c.with-near.result c.with-near.ensures
-          (of-user a.q.now x c.requires.q_len.0 who c.same_user.ensures d.if-same_user.false))
+        | then-same_user d ↦
+            rw (d.count-is, d.found-is)
+            (pass-found a.each a.fitting.0 a.q.now a.table.now here shared l.invariant.1 some c.or-open.ensures c.with-near.result c.with-near.ensures
+            (of-user a.q.now x c.requires.q_len.0 who c.same_user.ensures d.if-same_user.true) (omega (arith, l.invariant.1.few, l.invariant.1.sized, c.requires.q_len.1)))
+        | else-same_user d ↦
+            rw (d.count-is, d.found-is)
+            (pass-other a.each a.fitting.0 a.q.now a.table.now here shared l.invariant.1 some c.or-open.ensures c.with-near.result c.with-near.ensures
+            (of-user a.q.now x c.requires.q_len.0 who c.same_user.ensures d.if-same_user.false))
       ],
     )
 

@@ -5,7 +5,6 @@ use Rattle.words.specs.Bytes.{part}
 use Rattle.format.specs.Layout.{request_bytes}
 use Rattle.matching.specs.Masks.{together_by}
 use Rattle.history.specs.Code.{shared_by}
-use borrow.Author.Rules.{rules}
 use Rattle.history.proofs.finding.shared_at.Goals as goal
 
 pub returns : goal.returns

@@ -1,9 +1,9 @@
-use Prim.Native.Nat.{◌+◌, ◌-◌, ◌*◌, ◌<◌, ◌≤◌}
+use Prim.Native.Nat.{◌+◌, ◌*◌, ◌<◌, ◌≤◌}
 use native.Mathlib.Omega.{arith}
 use mathlib.Core.Path.{refl, ap, ◌∙◌}
 use lib.ListN.{length, get_or}
 use Rattle.fields.specs.Code.{packed_of}
-use Rattle.history.proofs.Turns.{Counted, count-start, count-apart, count-more, count-end}
+use Rattle.history.proofs.Turns.{count-start, count-apart, count-more, count-end}
 use Rattle.history.proofs.pasts.past_of.Goals.{then-stands_in, else-stands_in, After-shared_slice_known-in-loop-j-1, After-stands_in}
 use Rattle.history.proofs.pasts.past_of.Goals as goal
 
@@ -47,12 +47,12 @@ loop-j-preserved c =
     let l = c.loop-j in (
       omega arith,
       elim c.if-stands_in.branch [
-      | then-stands_in w ↦
-          rw (w.past-is, w.count-is, w.put_past.ensures)
-          (count-more a.each a.q.now a.i a.table.now a.found.now refl (omega arith) l.invariant.1 c.stands_in.ensures w.if-stands_in.true
-          w.roles.ensures (w.packed.ensures ∙ ap packed_of w.privilege.ensures) (spare (goal.at.loop-j-preserved c).After-stands_in))
-      | else-stands_in w ↦
-          rw (w.past-is, w.count-is) (count-apart a.each a.q.now a.i a.table.now a.found.now refl (omega arith) l.invariant.1 c.stands_in.ensures w.if-stands_in.false)
+        | then-stands_in w ↦
+            rw (w.past-is, w.count-is, w.put_past.ensures)
+            (count-more a.each a.q.now a.i a.table.now a.found.now refl (omega arith) l.invariant.1 c.stands_in.ensures w.if-stands_in.true
+            w.roles.ensures (w.packed.ensures ∙ ap packed_of w.privilege.ensures) (spare (goal.at.loop-j-preserved c).After-stands_in))
+        | else-stands_in w ↦
+            rw (w.past-is, w.count-is) (count-apart a.each a.q.now a.i a.table.now a.found.now refl (omega arith) l.invariant.1 c.stands_in.ensures w.if-stands_in.false)
       ],
     )
 

@@ -1,10 +1,6 @@
-use Prim.Native.Nat.{◌+◌, ◌-◌, ◌*◌, ◌<◌, ◌≤◌}
-use native.Mathlib.Omega.{arith}
-use mathlib.Core.Path.{refl, ap, ◌∙◌}
-use mathlib.Core.Logic.{⊎_elim}
-use lib.ListN.{length, get_or}
-use Rattle.fields.specs.Code.{packed_of}
-use Rattle.history.proofs.Turns.{Counted, count-start, count-apart, count-more, count-end}
+use Prim.Native.Nat.{◌≤◌}
+use lib.ListN.{length}
+use Rattle.history.proofs.Turns.{Counted}
 use Rattle.history.proofs.pasts.past_of.Given as goal
 
 abbrev pub invariant-loop-j : goal.invariant-loop-j

@@ -1,12 +1,8 @@
-use Prim.Native.Nat.{◌+◌, ◌-◌, ◌<◌, ◌≤◌}
-use native.Mathlib.Omega.{arith}
-use mathlib.Core.Path.{◌≡◌, sym, ap, ◌∙◌}
+use Prim.Native.Nat.{◌≤◌}
+use mathlib.Core.Path.{◌≡◌}
 use Rattle.words.specs.Bytes.{bits}
-use Rattle.word_laws.proofs.BitLaws.{bits-start}
 use Rattle.format.specs.Policy.{policy_of}
-use Rattle.format_laws.proofs.AcceptedPolicy.{rules-most}
-use Rattle.matching.specs.Masks.{is_each, each_at}
-use Rattle.matching.proofs.RuleSets.{bits-next}
+use Rattle.matching.specs.Masks.{is_each}
 use Rattle.matching.proofs.masks.each_at.Given as goal
 
 abbrev pub invariant-loop-i : goal.invariant-loop-i

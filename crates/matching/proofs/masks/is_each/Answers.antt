@@ -9,7 +9,6 @@ use Rattle.format.specs.Rule.{rule_at}
 use Rattle.format.specs.Policy.{policy_of}
 use Rattle.format_laws.proofs.AcceptedPolicy.{rule-inside}
 use Rattle.matching.specs.Masks.{is_each}
-use borrow.Author.Rules.{rules}
 use Rattle.matching.proofs.masks.is_each.Goals.{Start}
 use Rattle.matching.proofs.masks.is_each.Goals as goal
 

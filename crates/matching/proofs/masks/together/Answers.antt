@@ -9,7 +9,6 @@ use Rattle.format.specs.Layout.{request_bytes}
 use Rattle.format.specs.Request.{Request}
 use Rattle.matching.specs.declared.masks.Each.{Each}
 use Rattle.matching.specs.Masks.{apart_at, apart_beside, apart_by, together_by}
-use borrow.Author.Rules.{rules}
 use Rattle.matching.proofs.masks.together.Goals.{After-without-near}
 use Rattle.matching.proofs.masks.together.Goals as goal
 

@@ -1,10 +1,9 @@
 use Prim.Native.Nat.{ℕ, ◌-◌}
-use mathlib.Core.Path.{◌≡◌, sym, ap, ◌∙◌}
+use mathlib.Core.Path.{sym, ap, ◌∙◌}
 use borrow.Author.Tests.{eqb-true}
 use lib.Bits.{bit_and, bit_or}
 use Rattle.words.specs.Bytes.{part}
 use Rattle.matching.proofs.Together.{together-shallow}
-use borrow.Author.Rules.{rules}
 use Rattle.matching.proofs.masks.together_of.Goals.{After-and, After-is_empty, Then-is_empty}
 use Rattle.matching.proofs.masks.together_of.Goals as goal
 

@@ -1,21 +1,13 @@
-use Prim.Native.Nat.{ℕ, ◌+◌, ◌-◌, ◌*◌, ◌^◌, ◌<◌, ◌≤◌}
-use native.Mathlib.Omega.{arith}
-use mathlib.Core.Path.{◌≡◌, sym, ap, ap₂, ◌∙◌}
-use mathlib.Core.Bool.{Bool, cond, not, ◌&&◌, ◌||◌}
+use Prim.Native.Nat.{ℕ, ◌≤◌}
+use mathlib.Core.Path.{◌≡◌}
+use mathlib.Core.Bool.{Bool, not, ◌&&◌, ◌||◌}
 use mathlib.Core.List.{List}
-use lib.ListN.{length, take, drop}
-use Rattle.words.specs.Bytes.{bits, part}
-use Rattle.word_laws.proofs.Parts.{part-to, part_length, part-whole}
-use Rattle.word_laws.proofs.BitLaws.{bits-start}
+use Rattle.words.specs.Bytes.{bits}
 use Rattle.format.specs.Block.{block}
 use Rattle.format.specs.Request.{Request}
 use Rattle.format.specs.Rule.{rule_at, is_set}
 use Rattle.format.specs.Fits.{fits}
-use Rattle.format.specs.Policy.{policy_of, rule_count}
-use Rattle.format_laws.proofs.AcceptedPolicy.{rules-most, rule-inside, depth-few}
 use Rattle.judge.specs.Verdict.{is_first, is_last}
-use Rattle.matching.specs.Sets.{fitting_in, starting_in, last_in}
-use Rattle.matching.proofs.RuleSets.{bits-next}
 use Rattle.matching.proofs.rules.match_rules.Given as goal
 
 -- what the rule of a block is to the request

@@ -1,10 +1,7 @@
-use Prim.Native.Nat.{◌-◌, ◌≤◌}
-use mathlib.Core.Path.{◌≡◌, sym, ◌∙◌}
+use mathlib.Core.Path.{sym, ◌∙◌}
 use native.Mathlib.Omega.{arith}
-use borrow.Author.Tests.{not-true, not-false}
-use Rattle.words.specs.First.{first}
 use Rattle.word_laws.proofs.First.{unless-passes, unless-fails, first-start, first-hit, first_more, first_done}
-use Rattle.policy_check.specs.Parts.{entry_fault, entries_fault}
+use Rattle.policy_check.specs.Parts.{entry_fault}
 use Rattle.policy_check.proofs.permission.entries_fault.Goals as goal
 
 pub loop-i-init : goal.loop-i-init

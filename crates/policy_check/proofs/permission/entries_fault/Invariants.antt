@@ -1,9 +1,6 @@
 use Prim.Native.Nat.{◌-◌, ◌≤◌}
-use mathlib.Core.Path.{◌≡◌, sym, ◌∙◌}
-use native.Mathlib.Omega.{arith}
-use borrow.Author.Tests.{not-true, not-false}
+use mathlib.Core.Path.{◌≡◌}
 use Rattle.words.specs.First.{first}
-use Rattle.word_laws.proofs.First.{unless-passes, unless-fails, first-start, first-hit, first_more, first_done}
 use Rattle.policy_check.specs.Parts.{entry_fault, entries_fault}
 use Rattle.policy_check.proofs.permission.entries_fault.Given as goal
 

@@ -1,7 +1,6 @@
 use mathlib.Core.Path.{◌≡◌, sym, ◌∙◌}
 use mathlib.Core.Bool.{true}
 use native.Mathlib.Omega.{arith}
-use borrow.Author.Tests.{not-true, not-false}
 use Rattle.word_laws.proofs.First.{test-passes, test-fails}
 use Rattle.format.specs.Policy.{permission_fault, good_permission_bytes}
 use Rattle.policy_check.proofs.Sized.{few-entries}

@@ -1,6 +1,5 @@
 use mathlib.Core.Path.{◌≡◌, sym, ◌∙◌}
 use mathlib.Core.Bool.{true}
-use borrow.Author.Tests.{not-true, not-false}
 use Rattle.policy_check.specs.Parts.{good_header}
 use Rattle.format.specs.Block.{good_check}
 use Rattle.policy_check.proofs.PolicyBlock.{bad-check, bad-header, rule-block, permission-block}

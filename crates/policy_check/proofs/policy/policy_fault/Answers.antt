@@ -1,7 +1,6 @@
 use mathlib.Core.Path.{◌≡◌, sym, ◌∙◌}
 use mathlib.Core.Bool.{true}
 use native.Mathlib.Omega.{arith}
-use borrow.Author.Tests.{not-true, not-false}
 use Rattle.word_laws.proofs.First.{test-passes, test-fails}
 use Rattle.format.specs.Block.{good_length}
 use Rattle.format.specs.Policy.{policy_fault}

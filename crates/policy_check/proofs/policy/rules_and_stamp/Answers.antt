@@ -1,6 +1,5 @@
 use native.Mathlib.Omega.{arith}
 use Rattle.policy_check.proofs.Lengths.{policy-blocked}
-use borrow.Author.Rules.{rules}
 use Rattle.policy_check.proofs.policy.rules_and_stamp.Goals as goal
 
 pub rule_count-requires : goal.rule_count-requires

@@ -1,10 +1,8 @@
-use Prim.Native.Nat.{◌-◌, ◌≤◌}
+use Prim.Native.Nat.{◌≤◌}
 use mathlib.Core.Path.{◌≡◌}
-use native.Mathlib.Numerals.{add-one}
-use native.Mathlib.Omega.{arith}
 use Rattle.words.specs.Lists.{all_below}
 use Rattle.policy_check.specs.Parts.{good_level_of}
-use Rattle.format.specs.Rule.{level_at, rule_at}
+use Rattle.format.specs.Rule.{level_at}
 use Rattle.policy_check.proofs.rule.good_levels.Given as goal
 
 abbrev pub invariant-loop-i : goal.invariant-loop-i

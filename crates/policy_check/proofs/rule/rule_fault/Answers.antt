@@ -1,5 +1,4 @@
 use mathlib.Core.Path.{sym, ◌∙◌}
-use borrow.Author.Tests.{not-true, not-false}
 use Rattle.word_laws.proofs.First.{test-passes, test-fails}
 use Rattle.format.specs.Rule.{rule_fault}
 use Rattle.policy_check.proofs.rule.rule_fault.Goals as goal

@@ -1,14 +1,8 @@
-use Prim.Native.Nat.{◌*◌, ◌-◌, ◌≤◌}
-use mathlib.Core.Path.{◌≡◌, refl, sym, ap, ◌∙◌}
-use native.Mathlib.Omega.{arith}
-use native.Mathlib.Numerals.{add-one}
+use Prim.Native.Nat.{◌*◌, ◌≤◌}
+use mathlib.Core.Path.{◌≡◌}
 use Rattle.words.specs.Bytes.{part}
-use Rattle.words.specs.Sums.{Sums, add_words, sums, words}
-use Rattle.word_laws.proofs.Parts.{part_length}
-use Rattle.format.specs.Block.{block, blocks}
+use Rattle.words.specs.Sums.{sums, words}
 use Rattle.sums.specs.Code.{sums_of}
-use Rattle.policy_check.proofs.PolicyBlock.{block-part}
-use Rattle.policy_check.proofs.Stamps.{accepted-check, stamp-more, stamp-all}
 use Rattle.policy_check.proofs.stamp.stamp_of.Given as goal
 
 abbrev pub invariant-loop-k : goal.invariant-loop-k

@@ -1,5 +1,4 @@
-use Rattle.std.proofs.Common.{◌≡◌, ◌-◌, ◌*◌, ◌≤◌, true, sym, refl, ◌∙◌, add-one, arith, rules}
-use borrow.Author.Tests.{not-true, not-false}
+use Rattle.std.proofs.Common.{◌≡◌, ◌*◌, sym, refl, ◌∙◌, add-one, arith}
 use Rattle.words.specs.Lists.{all_below}
 use Rattle.word_laws.proofs.Parts.{part-to, part_length}
 use Rattle.word_laws.proofs.Tests.{both, all_below-fails}

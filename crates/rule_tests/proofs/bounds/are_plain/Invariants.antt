@@ -1,10 +1,6 @@
-use Rattle.std.proofs.Common.{◌≡◌, ◌-◌, ◌*◌, ◌≤◌, true, sym, refl, ◌∙◌, add-one, arith, rules}
-use borrow.Author.Tests.{not-true, not-false}
+use Rattle.std.proofs.Common.{◌≡◌, ◌≤◌, true}
 use Rattle.words.specs.Lists.{all_below}
-use Rattle.word_laws.proofs.Parts.{part-to, part_length}
-use Rattle.word_laws.proofs.Tests.{both, all_below-fails}
 use Rattle.format.specs.Policy.{policy_of}
-use Rattle.format_laws.proofs.AcceptedPolicy.{rules-few}
 use Rattle.rule_tests.specs.Shapes.{plain}
 use Rattle.rule_tests.proofs.bounds.are_plain.Given as goal
 

@@ -1,4 +1,4 @@
-use Rattle.std.proofs.Common.{rules, le-ltb, lt-ltb}
+use Rattle.std.proofs.Common.{le-ltb, lt-ltb}
 use Rattle.rule_tests.specs.Bounds.{bound_word}
 use Rattle.rule_tests.proofs.bounds.bound_word.Goals as goal
 

@@ -1,4 +1,4 @@
-use Rattle.std.proofs.Common.{◌&&◌, ap₂, rules}
+use Rattle.std.proofs.Common.{◌&&◌, ap₂}
 use Rattle.rule_tests.specs.Bounds.{bounds_fit}
 use Rattle.rule_tests.proofs.bounds.bounds_fit.Goals as goal
 

@@ -1,8 +1,8 @@
-use Rattle.std.proofs.Common.{◌≡◌, ◌-◌, ◌*◌, ◌/◌, ◌≤◌, length, ◌∙◌, arith, length-set, rules}
+use Rattle.std.proofs.Common.{◌*◌, ◌/◌, ◌∙◌, arith, length-set}
 use Rattle.word_laws.proofs.Parts.{part-to, part_length}
 use Rattle.format.specs.Policy.{policy_of}
 use Rattle.format_laws.proofs.AcceptedPolicy.{rules-few, rules-most, rule-good}
-use Rattle.rule_tests.proofs.Made.{Made, made_more}
+use Rattle.rule_tests.proofs.Made.{made_more}
 use Rattle.rule_tests.proofs.Bounded.{bound_number}
 use Rattle.rule_tests.proofs.bounds.bounds_of.Goals.{At-loop-k, In-loop-k, Start}
 use Rattle.rule_tests.proofs.bounds.bounds_of.Goals as goal

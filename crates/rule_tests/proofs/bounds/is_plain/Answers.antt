@@ -1,4 +1,4 @@
-use Rattle.std.proofs.Common.{refl, rules}
+use Rattle.std.proofs.Common.{refl}
 use Rattle.words.specs.Lists.{all_below}
 use Rattle.format.specs.Rule.{rule_at}
 use Rattle.rule_tests.specs.Shapes.{plain}

@@ -1,4 +1,4 @@
-use Rattle.std.proofs.Common.{ℕ, ◌+◌, ◌*◌, ap₂, rules}
+use Rattle.std.proofs.Common.{ℕ, ◌+◌, ◌*◌, ap₂}
 use Rattle.format.specs.Rule.{rule_at}
 use Rattle.rule_tests.specs.Bounds.{level_first}
 use Rattle.rule_tests.proofs.bounds.level_first.Goals as goal

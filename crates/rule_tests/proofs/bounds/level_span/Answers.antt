@@ -1,4 +1,4 @@
-use Rattle.std.proofs.Common.{◌<◌, arith, rules}
+use Rattle.std.proofs.Common.{◌<◌, arith}
 use Rattle.format.specs.Rule.{rule_at}
 use Rattle.rule_tests.proofs.Bounded.{span-past, span-fixed, span-range, span-type, span-rises}
 use Rattle.rule_tests.proofs.bounds.level_span.Goals.{Else-wide-l, Start}

@@ -1,4 +1,4 @@
-use Rattle.std.proofs.Common.{ℕ, ◌+◌, ◌&&◌, get_or, ap, ◌∙◌, ap₂, rules}
+use Rattle.std.proofs.Common.{ℕ, ◌+◌, ◌&&◌, get_or, ap, ◌∙◌, ap₂}
 use Rattle.rule_tests.specs.Bounds.{reached, pair_fits}
 use Rattle.rule_tests.proofs.bounds.pair_fits.Goals.{After-level_number-second, After-reaches}
 use Rattle.rule_tests.proofs.bounds.pair_fits.Goals as goal

@@ -1,4 +1,4 @@
-use Rattle.std.proofs.Common.{◌≡◌, ℕ, ◌+◌, ◌-◌, ◌%◌, leb, ap, arith, rules}
+use Rattle.std.proofs.Common.{◌≡◌, ℕ, ◌+◌, ◌-◌, ◌%◌, leb, ap, arith}
 use Rattle.rule_tests.specs.Bounds.{reached}
 use Rattle.rule_tests.proofs.bounds.reaches.Goals as goal
 

@@ -1,4 +1,4 @@
-use Rattle.std.proofs.Common.{◌+◌, ◌*◌, arith, rules, le-ltb, lt-ltb, eq-eqb, ne_eqb}
+use Rattle.std.proofs.Common.{◌+◌, ◌*◌, arith, le-ltb, lt-ltb, eq-eqb, ne_eqb}
 use Rattle.words.specs.Bytes.{byte_at}
 use Rattle.format.specs.Rule.{rule_at}
 use Rattle.rule_tests.specs.Shapes.{level_mask}

@@ -1,4 +1,4 @@
-use Rattle.std.proofs.Common.{arith, rules}
+use Rattle.std.proofs.Common.{arith}
 use Rattle.format.specs.Rule.{rule_at}
 use Rattle.rule_tests.specs.Shapes.{level_want}
 use Rattle.rule_tests.proofs.shapes.level_want.Goals as goal

@@ -1,4 +1,4 @@
-use Rattle.std.proofs.Common.{refl, rules}
+use Rattle.std.proofs.Common.{refl}
 use Rattle.rule_tests.specs.Shapes.{shape_fits}
 use Rattle.rule_tests.proofs.shapes.shape_fits.Goals as goal
 

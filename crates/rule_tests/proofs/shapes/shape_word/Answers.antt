@@ -1,4 +1,4 @@
-use Rattle.std.proofs.Common.{rules, le-ltb, lt-ltb}
+use Rattle.std.proofs.Common.{le-ltb, lt-ltb}
 use Rattle.rule_tests.specs.Shapes.{shape_word}
 use Rattle.rule_tests.proofs.shapes.shape_word.Goals as goal
 

@@ -1,9 +1,8 @@
-use Prim.Native.Nat.{◌-◌, ◌≤◌}
+use Prim.Native.Nat.{◌≤◌}
 use mathlib.Core.Path.{◌≡◌}
-use native.Mathlib.Omega.{arith}
 use lib.ListN.{length}
 use Rattle.register.specs.Calls.{call_step}
-use Rattle.session.proofs.Turns.{Running, running_more, running-table, running-out}
+use Rattle.session.proofs.Turns.{Running}
 use Rattle.session.proofs.run.call_each.Given as goal
 
 abbrev pub invariant-loop-i : goal.invariant-loop-i

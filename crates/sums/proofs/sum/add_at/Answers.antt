@@ -1,4 +1,3 @@
-use Rattle.std.proofs.Common.{rules}
 use Rattle.sums.proofs.sum.add_at.Goals as goal
 
 -- src/sum.rt:39:1

@@ -1,5 +1,5 @@
-use Rattle.std.proofs.Common.{◌≡◌, ◌-◌, ◌≤◌, refl, add-one, arith, rules}
-use Rattle.sums.specs.Code.{sums_of, Fours, fours, add_four, word_from}
+use Rattle.std.proofs.Common.{◌≡◌, refl, add-one, arith}
+use Rattle.sums.specs.Code.{fours, add_four}
 use Rattle.sums.proofs.Fours.{fours-more}
 use Rattle.sums.proofs.sum.sum_fours.Goals as goal
 

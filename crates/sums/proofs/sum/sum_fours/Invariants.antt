@@ -1,6 +1,5 @@
-use Rattle.std.proofs.Common.{◌≡◌, ◌-◌, ◌≤◌, refl, add-one, arith, rules}
-use Rattle.sums.specs.Code.{sums_of, Fours, fours, add_four, word_from}
-use Rattle.sums.proofs.Fours.{fours-more}
+use Rattle.std.proofs.Common.{◌≡◌, ◌≤◌}
+use Rattle.sums.specs.Code.{sums_of, Fours, fours, word_from}
 use Rattle.sums.proofs.sum.sum_fours.Given as goal
 
 abbrev pub invariant-loop-i : goal.invariant-loop-i

@@ -1,7 +1,4 @@
-use Rattle.std.proofs.Common.{◌≡◌, ◌-◌, ◌*◌, ◌/◌, ◌≤◌, ◌∙◌, add-one, arith, rules}
-use Rattle.words.specs.Bytes.{part}
-use Rattle.words.specs.Sums.{sums, words}
-use Rattle.sums.specs.Code.{sums_of}
+use Rattle.std.proofs.Common.{◌≡◌, ◌/◌, ◌∙◌, add-one, arith}
 use Rattle.word_laws.proofs.Sums.{sums-more}
 use Rattle.sums.proofs.Fours.{fours-sums}
 use Rattle.sums.proofs.sum.sum_words.Goals as goal

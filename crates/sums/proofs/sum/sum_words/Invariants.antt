@@ -1,9 +1,7 @@
-use Rattle.std.proofs.Common.{◌≡◌, ◌-◌, ◌*◌, ◌/◌, ◌≤◌, ◌∙◌, add-one, arith, rules}
+use Rattle.std.proofs.Common.{◌≡◌, ◌*◌, ◌≤◌}
 use Rattle.words.specs.Bytes.{part}
 use Rattle.words.specs.Sums.{sums, words}
 use Rattle.sums.specs.Code.{sums_of}
-use Rattle.word_laws.proofs.Sums.{sums-more}
-use Rattle.sums.proofs.Fours.{fours-sums}
 use Rattle.sums.proofs.sum.sum_words.Given as goal
 
 abbrev pub invariant-loop-i : goal.invariant-loop-i

@@ -1,4 +1,3 @@
-use Rattle.std.proofs.Common.{rules}
 use Rattle.sums.specs.Code.{together}
 use Rattle.sums.proofs.sum.together.Goals as goal
 

@@ -3,13 +3,11 @@ use native.Mathlib.Omega.{arith}
 use mathlib.Core.Path.{◌≡◌, sym, ◌∙◌}
 use mathlib.Core.Bool.{true}
 use lib.ListN.{get_or}
-use borrow.Author.Tests.{not-true, not-false}
 use Rattle.words.specs.Bytes.{u32_at}
 use Rattle.word_laws.proofs.Bytes.{Byte}
 use Rattle.rule_tests.specs.Shapes.{shape_fits, marks_within}
 use Rattle.rule_tests.specs.Bounds.{bounds_fit}
 use Rattle.table_check.proofs.Marked.{marks-outside, levels_at, paired-levels, pass-as, by-shapes, by-bounds}
-use borrow.Author.Rules.{rules}
 use Rattle.table_check.proofs.record.good_marks.Goals.{After-two_levels-high, Else-not-marks_within}
 use Rattle.table_check.proofs.record.good_marks.Goals as goal
 

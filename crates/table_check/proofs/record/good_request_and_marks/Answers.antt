@@ -1,6 +1,5 @@
 use mathlib.Core.Path.{sym, ap, ◌∙◌}
 use mathlib.Core.Bool.{Bool, ◌&&◌}
-use borrow.Author.Tests.{not-true, not-false}
 use Rattle.format.specs.Table.{good_marks}
 use Rattle.format.specs.Records.{record_from}
 use Rattle.table_check.proofs.record.good_request_and_marks.Goals as goal

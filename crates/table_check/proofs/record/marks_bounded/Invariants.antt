@@ -1,10 +1,5 @@
-use Prim.Native.Nat.{ℕ}
-use native.Mathlib.Omega.{arith}
-use mathlib.Core.Path.{refl, sym, ◌∙◌}
-use mathlib.Core.Bool.{Bool}
-use borrow.Author.Tests.{not-true, not-false}
 use Rattle.rule_tests.specs.Bounds.{bounds_fit}
-use Rattle.table_check.proofs.Left.{Left, passes, fails, more, place, less}
+use Rattle.table_check.proofs.Left.{Left}
 use Rattle.table_check.proofs.record.marks_bounded.Given as goal
 
 abbrev pub invariant-loop-rest : goal.invariant-loop-rest

@@ -1,7 +1,6 @@
 use Rattle.table_check.proofs.Within.{within-is}
 use lib.Count.{leading_le}
 use native.Mathlib.Omega.{arith}
-use borrow.Author.Rules.{rules}
 use Rattle.table_check.proofs.record.marks_within.Goals as goal
 
 pub overflow_sub-result : goal.overflow_sub-result

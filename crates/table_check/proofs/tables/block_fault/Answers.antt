@@ -1,6 +1,5 @@
 use mathlib.Core.Path.{◌≡◌, sym, ◌∙◌}
 use mathlib.Core.Bool.{true}
-use borrow.Author.Tests.{not-true, not-false}
 use Rattle.sums.specs.Code.{sums_of}
 use Rattle.format.specs.Block.{good_check}
 use Rattle.format.specs.Table.{good_stamp}

@@ -1,9 +1,8 @@
-use Prim.Native.Nat.{◌-◌, ◌*◌, ◌≤◌}
+use Prim.Native.Nat.{◌*◌}
 use native.Mathlib.Omega.{arith}
 use mathlib.Core.Path.{◌≡◌, refl, sym, ap, ◌∙◌}
 use lib.ListN.{length-take, length-drop}
 use Rattle.words.specs.Lists.{any_below}
-use Rattle.words.specs.First.{first}
 use Rattle.sums.specs.Code.{sums_of}
 use Rattle.word_laws.proofs.Parts.{part-to}
 use Rattle.word_laws.proofs.First.{first-start, first-hit, first_more, first_done}
@@ -14,7 +13,6 @@ use Rattle.format.specs.Code.{fault_of}
 use Rattle.table_check.specs.CheckParts.{short_before, table_fault_in}
 use Rattle.rule_tests.specs.Bounds.{Tests}
 use Rattle.table_check.proofs.TableBlock.{fault-of-block, short-more}
-use borrow.Author.Rules.{rules}
 use Rattle.table_check.proofs.tables.blocks_fault.Goals.{After-block_fault-fault}
 use Rattle.table_check.proofs.tables.blocks_fault.Goals as goal
 

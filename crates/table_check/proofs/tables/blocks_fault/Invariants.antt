@@ -1,19 +1,11 @@
-use Prim.Native.Nat.{◌-◌, ◌*◌, ◌≤◌}
-use native.Mathlib.Omega.{arith}
-use mathlib.Core.Path.{◌≡◌, refl, sym, ap, ◌∙◌}
-use lib.ListN.{length-take, length-drop}
-use Rattle.words.specs.Lists.{any_below}
+use Prim.Native.Nat.{◌-◌, ◌≤◌}
+use mathlib.Core.Path.{◌≡◌}
 use Rattle.words.specs.First.{first}
 use Rattle.sums.specs.Code.{sums_of}
-use Rattle.word_laws.proofs.Parts.{part-to}
-use Rattle.word_laws.proofs.First.{first-start, first-hit, first_more, first_done}
-use Rattle.format.specs.Block.{block, blocks}
 use Rattle.format.specs.Policy.{Policy}
 use Rattle.format.specs.Table.{table_block_fault}
-use Rattle.format.specs.Code.{fault_of}
-use Rattle.table_check.specs.CheckParts.{short_before, table_fault_in}
+use Rattle.table_check.specs.CheckParts.{short_before}
 use Rattle.rule_tests.specs.Bounds.{Tests}
-use Rattle.table_check.proofs.TableBlock.{fault-of-block, short-more}
 use Rattle.table_check.proofs.tables.blocks_fault.Given as goal
 
 abbrev pub invariant-loop-k : goal.invariant-loop-k

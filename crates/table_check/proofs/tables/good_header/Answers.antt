@@ -1,7 +1,6 @@
 use Prim.Native.Nat.{◌≤◌}
 use native.Mathlib.Omega.{arith}
 use mathlib.Core.Path.{◌≡◌, sym, ◌∙◌}
-use borrow.Author.Tests.{not-true, not-false}
 use Rattle.table_check.specs.CheckParts.{good_table_heading, good_table_head}
 use Rattle.table_check.proofs.TableBlock.{few-records}
 use Rattle.table_check.proofs.tables.good_header.Goals.{After-good_heading, After-u16_at-count}

@@ -1,9 +1,6 @@
-use Prim.Native.Nat.{◌+◌, ◌-◌, ◌*◌, ◌≤◌}
 use native.Mathlib.Omega.{arith}
 use mathlib.Core.Path.{◌≡◌, sym, ◌∙◌}
-use mathlib.Core.List.{flatten}
 use lib.ListN.{length}
-use Rattle.words.specs.Lists.{tab}
 use Rattle.word_laws.proofs.Joined.{joined-start, joined-more, joined-done}
 use Rattle.format.specs.Block.{block, blocks}
 use Rattle.format.specs.Table.{records_of}

@@ -1,14 +1,11 @@
 use Prim.Native.Nat.{◌+◌, ◌-◌, ◌*◌, ◌≤◌}
-use native.Mathlib.Omega.{arith}
-use mathlib.Core.Path.{◌≡◌, sym, ◌∙◌}
+use mathlib.Core.Path.{◌≡◌}
 use mathlib.Core.List.{flatten}
 use lib.ListN.{length}
 use Rattle.words.specs.Lists.{tab}
-use Rattle.word_laws.proofs.Joined.{joined-start, joined-more, joined-done}
-use Rattle.format.specs.Block.{block, blocks}
+use Rattle.format.specs.Block.{block}
 use Rattle.format.specs.Table.{records_of}
 use Rattle.format_laws.proofs.BlockImage.{records_in}
-use Rattle.table_check.proofs.TableBlock.{records-at}
 use Rattle.table_check.proofs.tables.record_count.Given as goal
 
 abbrev pub invariant-loop-k : goal.invariant-loop-k

@@ -1,15 +1,10 @@
-use Prim.Native.Nat.{◌+◌, ◌-◌, ◌≤◌}
-use native.Mathlib.Omega.{arith}
-use mathlib.Core.Path.{◌≡◌, sym, ◌∙◌}
-use borrow.Author.Tests.{not-true, not-false}
+use Prim.Native.Nat.{◌-◌, ◌≤◌}
+use mathlib.Core.Path.{◌≡◌}
 use Rattle.words.specs.First.{first}
-use Rattle.word_laws.proofs.First.{unless-passes, unless-fails, first-start, first-hit, first_more, first_done}
-use Rattle.format.specs.Answer.{refusal}
-use Rattle.format.specs.Table.{count, record_at, good_record}
+use Rattle.format.specs.Table.{count}
 use Rattle.format.specs.Policy.{Policy}
 use Rattle.table_check.specs.CheckParts.{record_fault_at, records_fault}
 use Rattle.rule_tests.specs.Bounds.{Tests}
-use Rattle.table_check.proofs.Here.{record-from}
 use Rattle.table_check.proofs.tables.records_fault.Given as goal
 
 abbrev pub invariant-loop-i : goal.invariant-loop-i

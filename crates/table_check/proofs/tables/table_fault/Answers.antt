@@ -3,7 +3,6 @@ use native.Mathlib.Omega.{arith}
 use mathlib.Core.Path.{◌≡◌, sym, ◌∙◌}
 use mathlib.Core.Bool.{true}
 use lib.ListN.{length}
-use borrow.Author.Tests.{not-true, not-false}
 use Rattle.word_laws.proofs.First.{test-fails, test-passes}
 use Rattle.word_laws.proofs.Tests.{all_below-at}
 use Rattle.format.specs.Answer.{refusal}
@@ -13,7 +12,6 @@ use Rattle.format.specs.Policy.{policy_of}
 use Rattle.format.specs.Table.{table_length_fault, table_fault}
 use Rattle.format_laws.proofs.Accepted.{blocked}
 use Rattle.rule_tests.specs.Shapes.{plain}
-use borrow.Author.Rules.{rules}
 use Rattle.table_check.proofs.tables.table_fault.Goals.{Else-not-good_length}
 use Rattle.table_check.proofs.tables.table_fault.Goals as goal
 

@@ -1,11 +1,9 @@
-use Prim.Native.Nat.{◌+◌, ◌-◌, ◌*◌, ◌≤◌}
+use Prim.Native.Nat.{◌+◌, ◌*◌}
 use mathlib.Core.Path.{◌≡◌, refl, ap, ◌∙◌}
 use mathlib.Core.List.{[]}
 use native.Mathlib.Omega.{arith}
-use lib.ListN.{length}
 use lib.Seq.{paste-zero}
-use Rattle.words.specs.Bytes.{part, u32_at}
-use Rattle.table_write.specs.Writing.{over}
+use Rattle.words.specs.Bytes.{u32_at}
 use Rattle.table_write.proofs.SliceBytes.{slice-bytes}
 use Rattle.table_write.proofs.Copied.{copied}
 use Rattle.table_write.proofs.places.copy_words.Goals as goal

@@ -1,13 +1,8 @@
-use Prim.Native.Nat.{◌+◌, ◌-◌, ◌*◌, ◌≤◌}
-use mathlib.Core.Path.{◌≡◌, refl, ap, ◌∙◌}
-use mathlib.Core.List.{[]}
-use native.Mathlib.Omega.{arith}
+use Prim.Native.Nat.{◌*◌, ◌≤◌}
+use mathlib.Core.Path.{◌≡◌}
 use lib.ListN.{length}
-use lib.Seq.{paste-zero}
-use Rattle.words.specs.Bytes.{part, u32_at}
+use Rattle.words.specs.Bytes.{part}
 use Rattle.table_write.specs.Writing.{over}
-use Rattle.table_write.proofs.SliceBytes.{slice-bytes}
-use Rattle.table_write.proofs.Copied.{copied}
 use Rattle.table_write.proofs.places.copy_words.Given as goal
 
 abbrev pub invariant-loop-i : goal.invariant-loop-i

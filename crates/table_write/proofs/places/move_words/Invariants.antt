@@ -1,13 +1,8 @@
-use Prim.Native.Nat.{◌+◌, ◌-◌, ◌*◌, ◌≤◌}
-use mathlib.Core.Path.{◌≡◌, refl, ◌∙◌}
-use mathlib.Core.List.{[]}
-use native.Mathlib.Omega.{arith}
-use lib.ListN.{length, drop, length-drop}
-use lib.Seq.{length-take-le, paste-zero}
+use Prim.Native.Nat.{◌*◌, ◌≤◌}
+use mathlib.Core.Path.{◌≡◌}
+use lib.ListN.{length}
 use Rattle.words.specs.Bytes.{part}
 use Rattle.table_write.specs.Writing.{over}
-use Rattle.table_write.proofs.SliceBytes.{slice-bytes}
-use Rattle.table_write.proofs.Copied.{copied, word-ahead}
 use Rattle.table_write.proofs.places.move_words.Given as goal
 
 abbrev pub invariant-loop-i : goal.invariant-loop-i

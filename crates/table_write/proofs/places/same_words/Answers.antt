@@ -1,8 +1,6 @@
-use Prim.Native.Nat.{◌-◌, ◌*◌, ◌≤◌}
 use native.Mathlib.Omega.{arith}
 use mathlib.Core.Path.{◌≡◌, refl}
 use Rattle.words.specs.Lists.{same_list}
-use Rattle.words.specs.Bytes.{part}
 use Rattle.table_write.proofs.SliceBytes.{slice-bytes}
 use Rattle.table_write.proofs.Compared.{same_more}
 use Rattle.table_write.proofs.places.same_words.Goals as goal

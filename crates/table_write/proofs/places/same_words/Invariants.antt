@@ -1,10 +1,7 @@
-use Prim.Native.Nat.{◌-◌, ◌*◌, ◌≤◌}
-use native.Mathlib.Omega.{arith}
-use mathlib.Core.Path.{◌≡◌, refl}
+use Prim.Native.Nat.{◌*◌, ◌≤◌}
+use mathlib.Core.Path.{◌≡◌}
 use Rattle.words.specs.Lists.{same_list}
 use Rattle.words.specs.Bytes.{part}
-use Rattle.table_write.proofs.SliceBytes.{slice-bytes}
-use Rattle.table_write.proofs.Compared.{same_more}
 use Rattle.table_write.proofs.places.same_words.Given as goal
 
 abbrev pub invariant-loop-i : goal.invariant-loop-i

@@ -1,8 +1,8 @@
-use Prim.Native.Nat.{◌+◌, ◌-◌, ◌≤◌}
+use Prim.Native.Nat.{◌+◌}
 use mathlib.Core.Path.{◌≡◌, refl, ap, ◌∙◌}
 use mathlib.Core.List.{[], ◌∷◌}
 use native.Mathlib.Omega.{arith}
-use lib.ListN.{length, length-set, length-replicate, replicate-append-replicate}
+use lib.ListN.{length-set, length-replicate, replicate-append-replicate}
 use lib.Seq.{paste-zero}
 use Rattle.words.specs.Bytes.{zeros}
 use Rattle.table_write.specs.Writing.{over}

@@ -1,12 +1,8 @@
-use Prim.Native.Nat.{◌+◌, ◌-◌, ◌≤◌}
-use mathlib.Core.Path.{◌≡◌, refl, ap, ◌∙◌}
-use mathlib.Core.List.{[], ◌∷◌}
-use native.Mathlib.Omega.{arith}
-use lib.ListN.{length, length-set, length-replicate, replicate-append-replicate}
-use lib.Seq.{paste-zero}
+use Prim.Native.Nat.{◌≤◌}
+use mathlib.Core.Path.{◌≡◌}
+use lib.ListN.{length}
 use Rattle.words.specs.Bytes.{zeros}
 use Rattle.table_write.specs.Writing.{over}
-use Rattle.table_write.proofs.Over.{stored}
 use Rattle.table_write.proofs.write.zero_fill.Given as goal
 
 abbrev pub invariant-loop-i : goal.invariant-loop-i

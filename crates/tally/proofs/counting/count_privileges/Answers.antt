@@ -1,9 +1,8 @@
 use Rattle.word_laws.proofs.Below.{sum_more, sum-all}
 use Rattle.words.specs.Lists.{sum_below}
 use native.Mathlib.Omega.{arith}
-use mathlib.Core.Path.{◌≡◌, refl}
-use Prim.Native.Nat.{◌*◌, ◌-◌, ◌≤◌}
-use Rattle.tally.specs.Code.{member_counts, members_count}
+use mathlib.Core.Path.{refl}
+use Rattle.tally.specs.Code.{members_count}
 use Rattle.tally.proofs.counting.count_privileges.Goals as goal
 
 pub loop-k-init : goal.loop-k-init

@@ -1,9 +1,7 @@
-use Rattle.word_laws.proofs.Below.{sum_more, sum-all}
 use Rattle.words.specs.Lists.{sum_below}
-use native.Mathlib.Omega.{arith}
-use mathlib.Core.Path.{◌≡◌, refl}
-use Prim.Native.Nat.{◌*◌, ◌-◌, ◌≤◌}
-use Rattle.tally.specs.Code.{member_counts, members_count}
+use mathlib.Core.Path.{◌≡◌}
+use Prim.Native.Nat.{◌*◌, ◌≤◌}
+use Rattle.tally.specs.Code.{member_counts}
 use Rattle.tally.proofs.counting.count_privileges.Given as goal
 
 abbrev pub invariant-loop-k : goal.invariant-loop-k

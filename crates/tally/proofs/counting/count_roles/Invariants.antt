@@ -1,8 +1,5 @@
-use Rattle.word_laws.proofs.Below.{sum_more, sum-all}
-use Rattle.words.specs.Lists.{sum_below}
-use native.Mathlib.Omega.{arith}
-use mathlib.Core.Path.{◌≡◌, refl}
-use Prim.Native.Nat.{◌-◌, ◌≤◌}
+use mathlib.Core.Path.{◌≡◌}
+use Prim.Native.Nat.{◌≤◌}
 use Rattle.tally.specs.Code.{roles_among}
 use Rattle.tally.proofs.counting.count_roles.Given as goal
 

@@ -1,10 +1,8 @@
 use Rattle.word_laws.proofs.Below.{any-more, any-all}
-use Rattle.tally.specs.Code.{member_at, repeated}
+use Rattle.tally.specs.Code.{repeated}
 use Rattle.words.specs.Lists.{any_below}
-use lib.Dec.{eqb}
 use native.Mathlib.Omega.{arith}
-use mathlib.Core.Path.{◌≡◌, refl}
-use Prim.Native.Nat.{◌-◌, ◌≤◌}
+use mathlib.Core.Path.{refl}
 use Rattle.tally.proofs.counting.repeats.Goals as goal
 
 pub loop-j-init : goal.loop-j-init

@@ -1,10 +1,8 @@
-use Rattle.word_laws.proofs.Below.{any-more, any-all}
-use Rattle.tally.specs.Code.{member_at, repeated}
+use Rattle.tally.specs.Code.{member_at}
 use Rattle.words.specs.Lists.{any_below}
 use lib.Dec.{eqb}
-use native.Mathlib.Omega.{arith}
-use mathlib.Core.Path.{◌≡◌, refl}
-use Prim.Native.Nat.{◌-◌, ◌≤◌}
+use mathlib.Core.Path.{◌≡◌}
+use Prim.Native.Nat.{◌≤◌}
 use Rattle.tally.proofs.counting.repeats.Given as goal
 
 abbrev pub invariant-loop-j : goal.invariant-loop-j

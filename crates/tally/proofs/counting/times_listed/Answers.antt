@@ -1,11 +1,8 @@
 use Rattle.word_laws.proofs.Below.{sum_more, sum-all}
-use Rattle.tally.specs.Code.{member_at, listed}
+use Rattle.tally.specs.Code.{listed}
 use Rattle.words.specs.Lists.{sum_below}
-use mathlib.Core.Bool.{cond}
-use lib.Dec.{eqb}
 use native.Mathlib.Omega.{arith}
-use mathlib.Core.Path.{◌≡◌, refl}
-use Prim.Native.Nat.{◌-◌, ◌≤◌}
+use mathlib.Core.Path.{refl}
 use Rattle.tally.proofs.counting.times_listed.Goals as goal
 
 pub loop-j-init : goal.loop-j-init

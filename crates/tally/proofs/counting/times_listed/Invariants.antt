@@ -1,11 +1,9 @@
-use Rattle.word_laws.proofs.Below.{sum_more, sum-all}
-use Rattle.tally.specs.Code.{member_at, listed}
+use Rattle.tally.specs.Code.{member_at}
 use Rattle.words.specs.Lists.{sum_below}
 use mathlib.Core.Bool.{cond}
 use lib.Dec.{eqb}
-use native.Mathlib.Omega.{arith}
-use mathlib.Core.Path.{◌≡◌, refl}
-use Prim.Native.Nat.{◌-◌, ◌≤◌}
+use mathlib.Core.Path.{◌≡◌}
+use Prim.Native.Nat.{◌≤◌}
 use Rattle.tally.proofs.counting.times_listed.Given as goal
 
 abbrev pub invariant-loop-j : goal.invariant-loop-j

@@ -1,7 +1,6 @@
 use Rattle.tally.proofs.PastWords.{length-past, roles-past, done-past}
-use Rattle.tally.specs.Code.{TallyOf, past_words}
 use Rattle.word_laws.proofs.Parts.{part-whole}
-use Rattle.format.specs.Request.{Request, operation, roles as roles_of}
+use Rattle.format.specs.Request.{Request, roles as roles_of}
 use Rattle.format.specs.Rule.{exclusion_at}
 use Rattle.fields.specs.Code.{packed_of, done_by}
 use lib.ListN.{length, get_or, take, length-append}
@@ -9,8 +8,8 @@ use lib.Seq.{take-suc, take_all, length-take-le}
 use native.Mathlib.Numerals.{add-one}
 use native.Mathlib.Omega.{arith}
 use mathlib.Core.List.{List, [], ◌∷◌, ◌++◌}
-use mathlib.Core.Path.{◌≡◌, ap, ◌∙◌}
-use Prim.Native.Nat.{ℕ, ◌+◌, ◌*◌, ◌-◌, ◌≤◌, ◌<◌}
+use mathlib.Core.Path.{ap, ◌∙◌}
+use Prim.Native.Nat.{ℕ, ◌+◌, ◌*◌, ◌≤◌, ◌<◌}
 use Rattle.tally.proofs.tallies.reaches.Goals as goal
 
 pub loop-j-init : goal.loop-j-init

@@ -1,11 +1,7 @@
-use Prim.Native.Nat.{◌-◌, ◌≤◌}
 use native.Mathlib.Omega.{arith}
-use mathlib.Core.Path.{◌≡◌, sym, ◌∙◌}
-use mathlib.Core.Bool.{◌||◌}
-use Rattle.words.specs.Lists.{tab, any_of}
+use mathlib.Core.Path.{sym, ◌∙◌}
 use Rattle.format.specs.Policy.{permission_at}
 use Rattle.judge.specs.Verdict.{grants}
-use Rattle.verdict.specs.Code.{entries_of}
 use Rattle.verdict.proofs.Left.{element-more, element-done}
 use Rattle.verdict.proofs.Permissions.{no-entries, entries-start}
 use Rattle.verdict.proofs.permits.block_permits.Goals as goal

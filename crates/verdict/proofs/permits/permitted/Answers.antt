@@ -1,14 +1,10 @@
-use Prim.Native.Nat.{◌-◌, ◌≤◌, ◌*◌}
+use Prim.Native.Nat.{◌*◌}
 use native.Mathlib.Omega.{arith}
-use mathlib.Core.Path.{◌≡◌}
 use mathlib.Core.Bool.{true, false}
-use mathlib.Core.List.{flatten}
-use Rattle.words.specs.Lists.{tab, any_of}
 use Rattle.word_laws.proofs.Parts.{part-to, part_length}
-use Rattle.format.specs.Block.{blocks}
-use Rattle.format.specs.Policy.{policy_of, permissions_at}
+use Rattle.format.specs.Policy.{permissions_at}
 use Rattle.format_laws.proofs.AcceptedPolicy.{policy-blocked}
-use Rattle.judge.specs.Verdict.{grants, permitted as permitted_by}
+use Rattle.judge.specs.Verdict.{grants}
 use Rattle.verdict.proofs.AcceptedEntries.{entries_fit}
 use Rattle.verdict.proofs.Left.{list_hit, list-more, list_done}
 use Rattle.verdict.proofs.Permissions.{blocks_start, block-entries}

@@ -1,30 +1,16 @@
-use Prim.Native.Nat.{ℕ, ◌+◌, ◌-◌, ◌*◌, ◌≤◌, ◌<◌}
-use native.Mathlib.Nat.{sub-zero}
-use native.Mathlib.Omega.{arith}
-use mathlib.Core.Path.{◌≡◌, sym, ◌∙◌}
+use Prim.Native.Nat.{ℕ, ◌-◌, ◌≤◌}
+use mathlib.Core.Path.{◌≡◌}
 use mathlib.Core.List.{List}
-use mathlib.Core.Bool.{true}
 use mathlib.Core.Option.{Option}
-use borrow.Author.Tests.{not-true, not-false}
-use lib.ListN.{length, take, drop, length-take}
+use lib.ListN.{length}
 use Rattle.words.specs.First.{first}
-use Rattle.words.specs.Bytes.{bit}
-use Rattle.word_laws.proofs.First.{first-start}
-use Rattle.word_laws.proofs.Parts.{part-to}
 use Rattle.format.specs.Answer.{Refusal}
 use Rattle.format.specs.Layout.{most_rules}
 use Rattle.format.specs.Request.{Request}
-use Rattle.format.specs.Rule.{exclusion_at}
-use Rattle.format.specs.Policy.{rule_count}
-use Rattle.format_laws.proofs.AcceptedPolicy.{rule-inside}
-use Rattle.judge.specs.Tally.{reached}
-use Rattle.history.specs.Code.{past_by}
-use Rattle.history.proofs.Standing.{past-small}
 use Rattle.verdict.specs.Code.{rule_fails}
 use Rattle.verdict.specs.declared.search.Judging.{Judging}
-use Rattle.verdict.proofs.AcceptedEntries.{exclusion-ready}
-use Rattle.verdict.proofs.Nested.{left, row-hit, row_more, row_done}
-use Rattle.verdict.proofs.Searching.{fails_at, counts, few-rules, rules-done, rule-silent, rule-judges, exclusion-fails, exclusion-passes}
+use Rattle.verdict.proofs.Nested.{left}
+use Rattle.verdict.proofs.Searching.{fails_at, counts}
 use Rattle.verdict.proofs.search.first_failing.Given as goal
 
 -- what each rule says to the search, and what the search has to find

@@ -1,6 +1,6 @@
 use mathlib.Core.Path.{◌≡◌, sym, ◌∙◌}
 use mathlib.Core.Bool.{true}
-use borrow.Author.Tests.{not-true, not-false, eqb-true}
+use borrow.Author.Tests.{eqb-true}
 use Rattle.format.specs.Policy.{policy_of}
 use Rattle.format.specs.Records.{records_here}
 use Rattle.judge.specs.Verdict.{permitted as permitted_by}

@@ -1,9 +1,7 @@
-use Prim.Native.Nat.{ℕ, ◌-◌, ◌≤◌}
 use native.Mathlib.Omega.{arith}
 use mathlib.Core.Path.{◌≡◌, ap, ◌∙◌}
-use mathlib.Core.Bool.{◌&&◌, ◌||◌}
-use lib.Dec.{eqb, leb, ltb}
-use Rattle.fields.specs.Code.{has_block}
+use mathlib.Core.Bool.{◌||◌}
+use lib.Dec.{eqb}
 use Rattle.fields.proofs.BlockSets.{range_none, range-more}
 use Rattle.fields.proofs.blocks.BlockSet.with_range.Goals as goal
 

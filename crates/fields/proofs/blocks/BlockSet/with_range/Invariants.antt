@@ -1,10 +1,8 @@
-use Prim.Native.Nat.{ℕ, ◌-◌, ◌≤◌}
-use native.Mathlib.Omega.{arith}
-use mathlib.Core.Path.{◌≡◌, ap, ◌∙◌}
+use Prim.Native.Nat.{ℕ, ◌≤◌}
+use mathlib.Core.Path.{◌≡◌}
 use mathlib.Core.Bool.{◌&&◌, ◌||◌}
-use lib.Dec.{eqb, leb, ltb}
+use lib.Dec.{leb, ltb}
 use Rattle.fields.specs.Code.{has_block}
-use Rattle.fields.proofs.BlockSets.{range_none, range-more}
 use Rattle.fields.proofs.blocks.BlockSet.with_range.Given as goal
 
 abbrev pub invariant-loop-k : goal.invariant-loop-k

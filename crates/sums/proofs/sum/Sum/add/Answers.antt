@@ -1,4 +1,3 @@
-use Rattle.std.proofs.Common.{rules}
 use Rattle.words.specs.Sums.{add_word}
 use Rattle.sums.proofs.sum.Sum.add.Goals as goal
 

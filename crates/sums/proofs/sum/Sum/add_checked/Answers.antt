@@ -1,5 +1,4 @@
 use Rattle.sums.specs.Code.{go_on}
-use Rattle.std.proofs.Common.{rules}
 use Rattle.sums.proofs.sum.Sum.add_checked.Goals as goal
 
 pub returns : goal.returns

@@ -1,8 +1,8 @@
-use Rattle.tally.proofs.Taken.{Counting, counting-none, counting_more, roles-taken, done-taken}
+use Rattle.tally.proofs.Taken.{counting-none, counting_more, roles-taken, done-taken}
 use native.Mathlib.Omega.{arith}
-use mathlib.Core.Path.{◌≡◌, refl, ap, ◌∙◌}
-use Prim.Native.Nat.{ℕ, ◌+◌, ◌-◌, ◌%◌, ◌≤◌}
-use lib.ListN.{length, get_or}
+use mathlib.Core.Path.{refl, ap, ◌∙◌}
+use Prim.Native.Nat.{ℕ, ◌+◌, ◌%◌}
+use lib.ListN.{get_or}
 use Rattle.tally.proofs.tallies.Tally.add.Goals as goal
 
 pub returns-then-self-eq1 : goal.returns-then-self-eq1

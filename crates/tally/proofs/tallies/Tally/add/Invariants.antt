@@ -1,8 +1,7 @@
-use Rattle.tally.proofs.Taken.{Counting, counting-none, counting_more, roles-taken, done-taken}
-use native.Mathlib.Omega.{arith}
-use mathlib.Core.Path.{◌≡◌, refl, ap, ◌∙◌}
-use Prim.Native.Nat.{ℕ, ◌+◌, ◌-◌, ◌%◌, ◌≤◌}
-use lib.ListN.{length, get_or}
+use Rattle.tally.proofs.Taken.{Counting}
+use mathlib.Core.Path.{◌≡◌}
+use Prim.Native.Nat.{◌≤◌}
+use lib.ListN.{length}
 use Rattle.tally.proofs.tallies.Tally.add.Given as goal
 
 abbrev pub invariant-loop-k : goal.invariant-loop-k

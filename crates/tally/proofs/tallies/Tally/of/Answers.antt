@@ -1,13 +1,12 @@
 use Rattle.tally.proofs.Lists.{set_before}
 use Rattle.tally.proofs.Taken.{none-taken}
-use Rattle.tally.specs.Code.{member_at}
 use Rattle.format.specs.Rule.{exclusion_at}
 use Rattle.fields.specs.Code.{packed_of}
 use Rattle.fields.specs.declared.privilege.Packed.{Packed}
-use lib.ListN.{length, get_or-replicate, length-set}
+use lib.ListN.{get_or-replicate, length-set}
 use native.Mathlib.Omega.{arith}
-use mathlib.Core.Path.{◌≡◌, refl, ap, ◌∙◌}
-use Prim.Native.Nat.{ℕ, ◌+◌, ◌*◌, ◌-◌, ◌≤◌, ◌<◌}
+use mathlib.Core.Path.{refl, ap, ◌∙◌}
+use Prim.Native.Nat.{◌+◌, ◌*◌}
 use Rattle.tally.proofs.tallies.Tally.of.Goals as goal
 
 pub loop-k-init : goal.loop-k-init

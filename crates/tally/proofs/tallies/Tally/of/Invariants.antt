@@ -1,13 +1,9 @@
-use Rattle.tally.proofs.Lists.{set_before}
-use Rattle.tally.proofs.Taken.{none-taken}
 use Rattle.tally.specs.Code.{member_at}
 use Rattle.format.specs.Rule.{exclusion_at}
 use Rattle.fields.specs.Code.{packed_of}
-use Rattle.fields.specs.declared.privilege.Packed.{Packed}
-use lib.ListN.{length, get_or-replicate, length-set}
-use native.Mathlib.Omega.{arith}
-use mathlib.Core.Path.{◌≡◌, refl, ap, ◌∙◌}
-use Prim.Native.Nat.{ℕ, ◌+◌, ◌*◌, ◌-◌, ◌≤◌, ◌<◌}
+use lib.ListN.{length}
+use mathlib.Core.Path.{◌≡◌}
+use Prim.Native.Nat.{ℕ, ◌≤◌, ◌<◌}
 use Rattle.tally.proofs.tallies.Tally.of.Given as goal
 
 abbrev pub invariant-loop-k : goal.invariant-loop-k

@@ -2,7 +2,7 @@ use Rattle.tally.proofs.Exclusions.{n-most, role-range, roles-tally, privileges-
 use Rattle.tally.specs.Code.{roles_among, members_count}
 use Rattle.judge.specs.Tally.{reached}
 use Rattle.format.specs.Rule.{exclusion_at}
-use borrow.Author.Tests.{eq-eqb, ne_eqb}
+use borrow.Author.Tests.{eq-eqb}
 use lib.Dec.{leb}
 use native.Mathlib.Omega.{arith}
 use mathlib.Core.Path.{◌≡◌, sym, ap, ap₂, ◌∙◌}
