@@ -1,12 +1,7 @@
-<<<<<<< HEAD
 -- The lines written so far; the ordinal grows to a bound, and the table keeps its length.
 use Rattle.std.proofs.Common.{◌-◌, ◌≡◌, length}
 use Rattle.trial_run.specs.Text.{Decided}
 use Rattle.trial_run.proofs.Deciding.{Decides}
-=======
--- The ordinal grows to a bound, and the table keeps its length.
-use Rattle.std.proofs.Common.{◌-◌, ◌≡◌, length}
->>>>>>> 8bec2027021b6885f247223f5402745a63789173
 use Rattle.trial_run.proofs.run.decide_all.Given as goal
 
 abbrev pub invariant-loop-ordinal : goal.invariant-loop-ordinal
