@@ -1,7 +1,12 @@
 // The trial run of document 01: a policy, two bytes for the table's blocks, then requests to the end, from a reader; a line for each request to a
 // writer. What matters is in the library `engine`: nothing here decides anything.
-ghost use Rattle.std.specs.Prelude.{◌≡◌, ◌*◌, ◌≤◌, length, IfOk};
+ghost use Rattle.std.specs.Prelude.{◌≡◌, ◌*◌, ◌≤◌, length, take, IfOk, IfSome, OnOk, OnErr};
+ghost use Rattle.std.specs.Io.KnownBytes.{Appends};
 ghost use Rattle.format.specs.Layout.{block_bytes, policy_blocks, table_blocks};
+ghost use Rattle.format.specs.Calls.{make_table};
+ghost use Rattle.answers.specs.Code.{answer_of};
+ghost use Rattle.trial_run.specs.Reading.{ReadsFront, LosesNone, ReadsBlocks, promised, lent, policy_size};
+ghost use Rattle.trial_run.specs.Text.{number, line, decided, Decided, most_requests, session_text, trial_text};
 
 use answers::reply::Reply;
 use checks::calls::make_table;
@@ -13,7 +18,8 @@ use std::io::{Read, Write};
 
 // How many blocks of a policy to read in all, by what its first block promises: one at least, 64 at most.
 fn promised(low: u8, high: u8) -> usize
-    ensures { (1 ≤ result) × (result ≤ policy_blocks) }
+    ensures within { (1 ≤ result) × (result ≤ policy_blocks) }
+    ensures value { result ≡ promised low high }
 {
     let n = wide(low) + 256 * wide(high);
     if n < 1 {
@@ -27,7 +33,8 @@ fn promised(low: u8, high: u8) -> usize
 
 // How many blocks to lend for a table: none for a number that no table has.
 fn lent(low: u8, high: u8) -> usize
-    ensures { result ≤ table_blocks }
+    ensures within { result ≤ table_blocks }
+    ensures value { result ≡ lent low high }
 {
     let n = wide(low) + 256 * wide(high);
     if TABLE_BLOCKS < n as usize {
@@ -38,7 +45,9 @@ fn lent(low: u8, high: u8) -> usize
 
 // Reads until the buffer is full or the input ends. Says how many bytes there were.
 fn read_full<R: Read>(input: &mut R, buffer: &mut [u8]) -> io::Result<usize>
-    ensures { IfOk result (λ n. n ≤ length buffer.old) }
+    ensures within { IfOk result (λ n. n ≤ length buffer.old) }
+    ensures bytes { IfOk result (λ n. ReadsFront (R.remaining input.old) (R.remaining input.new) (λ _. length buffer.old) (take n buffer.new)) }
+    ensures failed { OnErr result (LosesNone (R.remaining input.old) (R.remaining input.new) buffer.new) }
 {
     let mut done = 0;
     while done < buffer.len() {
@@ -54,7 +63,9 @@ fn read_full<R: Read>(input: &mut R, buffer: &mut [u8]) -> io::Result<usize>
 // Reads a policy: block 0, then the blocks that it promises. Says how many bytes there were.
 fn read_policy<R: Read>(input: &mut R, policy: &mut [u8]) -> io::Result<usize>
     requires { length policy.old ≡ block_bytes * policy_blocks }
-    ensures { IfOk result (λ n. n ≤ block_bytes * policy_blocks) }
+    ensures within { IfOk result (λ n. n ≤ block_bytes * policy_blocks) }
+    ensures bytes { IfOk result (λ n. ReadsFront (R.remaining input.old) (R.remaining input.new) policy_size (take n policy.new)) }
+    ensures failed { OnErr result (LosesNone (R.remaining input.old) (R.remaining input.new) policy.new) }
 {
     let first = read_full(input, &mut policy[0..BLOCK_BYTES])?;
     if first < BLOCK_BYTES {
@@ -67,7 +78,8 @@ fn read_policy<R: Read>(input: &mut R, policy: &mut [u8]) -> io::Result<usize>
 
 // Reads the number of blocks of the table: 0 where the input stops.
 fn read_blocks<R: Read>(input: &mut R) -> io::Result<usize>
-    ensures { IfOk result (λ n. n ≤ table_blocks) }
+    ensures within { IfOk result (λ n. n ≤ table_blocks) }
+    ensures bytes { IfOk result (ReadsBlocks (R.remaining input.old) (R.remaining input.new)) }
 {
     let mut bytes = [0u8; 2];
     let got = read_full(input, &mut bytes)?;
@@ -78,12 +90,16 @@ fn read_blocks<R: Read>(input: &mut R) -> io::Result<usize>
 }
 
 // A space and a number.
-fn print_number<W: Write>(out: &mut W, n: u32) -> io::Result<()> {
+fn print_number<W: Write>(out: &mut W, n: u32) -> io::Result<()>
+    ensures { OnOk result (Appends (W.contents out.old) (W.contents out.new) (number n)) }
+{
     write!(out, " {n}")
 }
 
 // A line: the ordinal, then `grant` with its three numbers or `refuse` with its number and two places.
-fn print_line<W: Write>(out: &mut W, ordinal: u64, reply: Reply) -> io::Result<()> {
+fn print_line<W: Write>(out: &mut W, ordinal: u64, reply: Reply) -> io::Result<()>
+    ensures { OnOk result (Appends (W.contents out.old) (W.contents out.new) (line ordinal (answer_of reply))) }
+{
     write!(out, "{ordinal}")?;
     match reply {
         Reply::Granted(g) => {
@@ -112,7 +128,10 @@ fn decide_all<R: Read, W: Write>(
     out: &mut W,
     policy: &[u8],
     table: &mut [u8],
-) -> io::Result<()> {
+) -> io::Result<()>
+    ensures lines { OnOk result (IfSome (R.remaining input.old) (λ xs. Appends (W.contents out.old) (W.contents out.new) (decided most_requests policy.now table.old 0 xs))) }
+    ensures table { Decided policy.now table.old table.new }
+{
     let mut ordinal = 0u64;
     while ordinal < 18446744073709551615 {
         let mut request = [0u8; REQUEST_BYTES];
@@ -132,7 +151,10 @@ fn session<R: Read, W: Write>(
     out: &mut W,
     policy: &[u8],
     table: &mut [u8],
-) -> io::Result<()> {
+) -> io::Result<()>
+    ensures lines { OnOk result (IfSome (R.remaining input.old) (λ xs. Appends (W.contents out.old) (W.contents out.new) (session_text policy.now table.old xs))) }
+    ensures table { Decided policy.now (make_table policy.now table.old).state table.new }
+{
     let made = make_table(policy, table);
     match made {
         Reply::Accepted(_) => decide_all(input, out, policy, table),
@@ -142,7 +164,9 @@ fn session<R: Read, W: Write>(
 }
 
 // The whole run.
-pub fn trial<R: Read, W: Write>(input: &mut R, out: &mut W) -> io::Result<()> {
+pub fn trial<R: Read, W: Write>(input: &mut R, out: &mut W) -> io::Result<()>
+    ensures { OnOk result (IfSome (R.remaining input.old) (λ xs. Appends (W.contents out.old) (W.contents out.new) (trial_text xs))) }
+{
     let mut policy = [0u8; BLOCK_BYTES * POLICY_BLOCKS];
     let len = read_policy(input, &mut policy)?;
     let mut table = [0u8; BLOCK_BYTES * TABLE_BLOCKS];
