@@ -27,11 +27,7 @@ fn run_file(rt: &(impl Env + Files + Print + Eprint), i: usize) -> io::Result<bo
         return Ok(true);
     };
     match File::open(rt, name) {
-        Ok(mut input) => {
-            if let Err(e) = trial(&mut input, &mut out) {
-                eprintln!(rt; "{name}: {e}")?;
-            }
-        }
+        Ok(mut input) => trial(&mut input, &mut out)?,
         Err(e) => eprintln!(rt; "{name}: {e}")?,
     }
     Ok(true)
