@@ -3,7 +3,7 @@
 -- - refusal_of, fault_of (Code): what a value of the code stands for. No example computes with such a value; the contracts of the checks above use them;
 -- - some sizes and offsets of Layout, and capacity: tried one by one, an example breaks if any of them is one more (context_bytes: one less);
 -- - blank_level of a request: tried, an example breaks if a level half blank passes for blank;
--- - what only puts together definitions that edits do alter: sealed, permissions_at, level_at, exclusion_at, isSet, marked, record_bytes_at, record_image,
+-- - what only puts together definitions that edits do alter: sealed, permissions_at, level_at, exclusion_at, is_set, marked, record_bytes_at, record_image,
 --   block_image, fresh_table, altered, altered_blocks, and the records by where they start (Records). Examples compute with each of them.
 -- Assumes nothing.
 use Prim.Native.Nat.{ℕ, ◌+◌, ◌-◌, ◌*◌}
