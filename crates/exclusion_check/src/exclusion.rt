@@ -8,17 +8,17 @@ ghost use Rattle.exclusion_check.specs.Parts.{new_role, good_role, good_members,
 
 use fields::field::{u16_at, wide, zero_from};
 use fields::layout::{
-    EXCLUSION_BYTES, EXCLUSION_KIND_AT, EXCLUSION_M_AT, EXCLUSION_N_AT, EXCLUSION_PAD_AT,
+    BLOCK_BYTES, EXCLUSION_BYTES, EXCLUSION_KIND_AT, EXCLUSION_M_AT, EXCLUSION_N_AT, EXCLUSION_PAD_AT,
     EXCLUSIONS_AT, HIGHEST_ROLE, MEMBER_BYTES, MEMBER_PAD, MEMBERS_AT, MEMBERS_BYTES,
     MOST_EXCLUSIONS, MOST_MEMBERS, OF_PRIVILEGES, OF_ROLES,
 };
 use fields::number::Role;
 use fields::privilege;
-use format::answer::{Fault, Refusal};
+use format::answer::Refusal;
 
 // The role of member i is none of those before it.
-fn new_role(b: &[u8], e: usize, i: usize) -> bool
-    requires { (length b.now ≡ block_bytes) × ((e < most_exclusions) × (i < most_members)) }
+fn new_role(b: &[u8; BLOCK_BYTES], e: usize, i: usize) -> bool
+    requires { (e < most_exclusions) × (i < most_members) }
     ensures { result ≡ new_role (exclusion_at b.now e) i }
 {
     let at = MEMBERS_AT + EXCLUSION_BYTES * e;
@@ -32,8 +32,8 @@ fn new_role(b: &[u8], e: usize, i: usize) -> bool
 }
 
 // Member i of an exclusion of roles.
-fn good_role(b: &[u8], e: usize, i: usize) -> bool
-    requires { (length b.now ≡ block_bytes) × ((e < most_exclusions) × (i < most_members)) }
+fn good_role(b: &[u8; BLOCK_BYTES], e: usize, i: usize) -> bool
+    requires { (e < most_exclusions) × (i < most_members) }
     ensures { result ≡ good_role (exclusion_at b.now e) i }
 {
     let at = MEMBERS_AT + EXCLUSION_BYTES * e + MEMBER_BYTES * i;
@@ -42,8 +42,8 @@ fn good_role(b: &[u8], e: usize, i: usize) -> bool
 }
 
 // The n members of an exclusion of roles.
-pub fn good_roles(b: &[u8], e: usize, n: usize) -> bool
-    requires { (length b.now ≡ block_bytes) × ((e < most_exclusions) × ((n ≤ most_members) × (n ≡ byte_at b.now (n_at + exclusion_bytes * e)))) }
+pub fn good_roles(b: &[u8; BLOCK_BYTES], e: usize, n: usize) -> bool
+    requires { (e < most_exclusions) × ((n ≤ most_members) × (n ≡ byte_at b.now (n_at + exclusion_bytes * e))) }
     ensures { result ≡ good_roles (exclusion_at b.now e) }
 {
     let mut good = true;
@@ -54,8 +54,8 @@ pub fn good_roles(b: &[u8], e: usize, n: usize) -> bool
 }
 
 // The n members of an exclusion of privileges.
-pub fn good_privileges(b: &[u8], e: usize, n: usize) -> bool
-    requires { (length b.now ≡ block_bytes) × ((e < most_exclusions) × ((n ≤ most_members) × (n ≡ byte_at b.now (n_at + exclusion_bytes * e)))) }
+pub fn good_privileges(b: &[u8; BLOCK_BYTES], e: usize, n: usize) -> bool
+    requires { (e < most_exclusions) × ((n ≤ most_members) × (n ≡ byte_at b.now (n_at + exclusion_bytes * e))) }
     ensures { result ≡ good_privileges (exclusion_at b.now e) }
 {
     let mut good = true;
@@ -66,8 +66,8 @@ pub fn good_privileges(b: &[u8], e: usize, n: usize) -> bool
 }
 
 // The n members, by the exclusion's kind.
-fn good_members(b: &[u8], e: usize, n: usize) -> bool
-    requires { (length b.now ≡ block_bytes) × ((e < most_exclusions) × ((n ≤ most_members) × (n ≡ byte_at b.now (n_at + exclusion_bytes * e)))) }
+fn good_members(b: &[u8; BLOCK_BYTES], e: usize, n: usize) -> bool
+    requires { (e < most_exclusions) × ((n ≤ most_members) × (n ≡ byte_at b.now (n_at + exclusion_bytes * e))) }
     ensures { result ≡ good_members (exclusion_at b.now e) }
 {
     let kind = b[EXCLUSION_KIND_AT + EXCLUSION_BYTES * e];
@@ -81,8 +81,8 @@ fn good_members(b: &[u8], e: usize, n: usize) -> bool
 }
 
 // The numbers m and n of an exclusion, and the zero byte beside them.
-pub fn good_size(b: &[u8], e: usize) -> bool
-    requires { (length b.now ≡ block_bytes) × (e < most_exclusions) }
+pub fn good_size(b: &[u8; BLOCK_BYTES], e: usize) -> bool
+    requires { e < most_exclusions }
     ensures { result ≡ good_size (exclusion_at b.now e) }
 {
     let m = b[EXCLUSION_M_AT + EXCLUSION_BYTES * e];
@@ -94,8 +94,8 @@ pub fn good_size(b: &[u8], e: usize) -> bool
 }
 
 // An exclusion among the rule's number. Its members are looked at only where there are at most eight.
-fn good_exclusion(b: &[u8], e: usize) -> bool
-    requires { (length b.now ≡ block_bytes) × (e < most_exclusions) }
+fn good_exclusion(b: &[u8; BLOCK_BYTES], e: usize) -> bool
+    requires { e < most_exclusions }
     ensures { result ≡ good_exclusion (exclusion_at b.now e) }
 {
     if good_size(b, e) {
@@ -112,8 +112,8 @@ fn good_exclusion(b: &[u8], e: usize) -> bool
 }
 
 // Exclusion e: a good one among the rule's number, and zero past it.
-fn good_exclusion_at(b: &[u8], e: usize) -> bool
-    requires { (length b.now ≡ block_bytes) × (e < most_exclusions) }
+fn good_exclusion_at(b: &[u8; BLOCK_BYTES], e: usize) -> bool
+    requires { e < most_exclusions }
     ensures { result ≡ good_exclusion_at (rule_at b.now) e }
 {
     if (e as u32) < wide(b[EXCLUSIONS_AT]) {
@@ -124,18 +124,13 @@ fn good_exclusion_at(b: &[u8], e: usize) -> bool
 }
 
 // The first bad exclusion of rule block k.
-pub fn exclusions_fault(b: &[u8], k: u32) -> Fault
-    requires { length b.now ≡ block_bytes }
+pub fn exclusions_fault(b: &[u8; BLOCK_BYTES], k: u32) -> Result<(), Refusal>
     ensures { fault_of result ≡ exclusions_fault k b.now }
 {
     for e in 0..MOST_EXCLUSIONS {
         if !good_exclusion_at(b, e) {
-            return Fault::At(Refusal {
-                number: 5,
-                first: k,
-                second: (e + 1) as u32,
-            });
+            return Err(Refusal::Exclusion(k, e as u32 + 1));
         }
     }
-    Fault::Nothing
+    Ok(())
 }

@@ -1,16 +1,42 @@
 -- What the values of the code stand for.
 -- Assumes nothing.
+use Rattle.std.specs.Prelude.{Result, Ok, Err, ⊤}
 use Rattle.std.proofs.Math.Option.{Option, none, some}
-use Rattle.format.specs.Answer.{Refusal}
-use Rattle.format.specs.declared.answer.Refusal as declared
-use Rattle.format.specs.declared.answer.Fault.{Fault}
-use Rattle.format.specs.declared.answer.Fault.TheVariants.{Nothing, At}
+use Rattle.format.specs.Answer.{Refusal, refusal}
+use Rattle.format.specs.declared.answer.Refusal.{Refusal as Refused}
+use Rattle.format.specs.declared.answer.Refusal.TheVariants.{PolicyLength, PolicyCheck, PolicyHeader, RuleBytes, Exclusion, Entry, TableLength, TableCheck, TableHeader, Stamp, Record, Length, Field, NotPermitted, Roles, Privileges, Full}
+use Rattle.format.specs.declared.answer.TextRefusal.{TextRefusal}
+use Rattle.format.specs.declared.answer.TextRefusal.TheVariants.{Policy, Misfit, NotListed, NotWithin}
 
--- a refusal, as the code hands it on
-abbrev pub refusal_of : declared.Refusal → Refusal
-refusal_of r = record { number = r.number; first = r.first; second = r.second }
+-- "Numbers of refusal by place": the number and the places of each refusal of the code
+abbrev pub refusal_of : Refused → Refusal
+refusal_of PolicyLength = refusal 1 0 0
+refusal_of (PolicyCheck k) = refusal 2 k 0
+refusal_of (PolicyHeader k) = refusal 3 k 0
+refusal_of (RuleBytes k) = refusal 4 k 0
+refusal_of (Exclusion k e) = refusal 5 k e
+refusal_of (Entry k i) = refusal 6 k i
+refusal_of TableLength = refusal 11 0 0
+refusal_of (TableCheck k) = refusal 12 k 0
+refusal_of (TableHeader k) = refusal 13 k 0
+refusal_of (Stamp k) = refusal 14 k 0
+refusal_of (Record k i) = refusal 15 k i
+refusal_of Length = refusal 21 0 0
+refusal_of Field = refusal 22 0 0
+refusal_of NotPermitted = refusal 31 0 0
+refusal_of (Roles r e) = refusal 32 r e
+refusal_of (Privileges r e) = refusal 33 r e
+refusal_of Full = refusal 34 0 0
+
+-- the same of a call on a text: "41 for text that doesn't have the form, with the first byte .. and 0, 42 for a name or number not listed, 43 for what breaks
+-- document 01's limits"
+abbrev pub text_refusal_of : TextRefusal → Refusal
+text_refusal_of (Policy r) = refusal_of r
+text_refusal_of (Misfit b) = refusal 41 b 0
+text_refusal_of NotListed = refusal 42 0 0
+text_refusal_of NotWithin = refusal 43 0 0
 
 -- the answer of a check: nothing, or the refusal of the first fault
-abbrev pub fault_of : Fault → Option Refusal
-fault_of Nothing = none
-fault_of (At r) = some (refusal_of r)
+abbrev pub fault_of : Result ⊤ Refused → Option Refusal
+fault_of (Ok _) = none
+fault_of (Err r) = some (refusal_of r)
