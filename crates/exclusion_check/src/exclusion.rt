@@ -46,11 +46,7 @@ pub fn good_roles(b: &[u8; BLOCK_BYTES], e: usize, n: usize) -> bool
     requires { (e < most_exclusions) × ((n ≤ most_members) × (n ≡ byte_at b.now (n_at + exclusion_bytes * e))) }
     ensures { result ≡ good_roles (exclusion_at b.now e) }
 {
-    let mut good = true;
-    for i in 0..n {
-        good = good & good_role(b, e, i);
-    }
-    good
+    (0..n).all(|i| good_role(b, e, i))
 }
 
 // The n members of an exclusion of privileges.

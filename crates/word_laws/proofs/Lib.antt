@@ -14,3 +14,4 @@ pub mod BitLaws
 pub mod Lowest
 pub mod Sums
 pub mod Below
+pub mod Chains

@@ -47,7 +47,7 @@ same-append (x ∷ xs) (y ∷ ys) xs' ys' e =
 -- ---- lists that are made by index
 
 -- the first test apart
-all_below-first : (n : ℕ) (f : ℕ → Bool) → all_below (suc n) f ≡ f 0 && all_below n (λ i. f (suc i))
+pub all_below-first : (n : ℕ) (f : ℕ → Bool) → all_below (suc n) f ≡ f 0 && all_below n (λ i. f (suc i))
 unfolding all_below
 all_below-first zero f = sym (and-true (f 0))
 all_below-first (suc n) f = rw (all_below-first n f) (and_assoc (f 0) (all_below n (λ i. f (suc i))) (f (suc n)))
