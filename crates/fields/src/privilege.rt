@@ -6,7 +6,7 @@ ghost use Rattle.fields.specs.Code.{privilege_of, packed_of};
 use crate::field::u16_at;
 use crate::number::{Operation, Target};
 
-#[derive(Clone, Copy)]
+#[derive(Clone, Copy, Debug, PartialEq, Eq)]
 pub struct Privilege {
     pub operation: Operation,
     pub target: Target,
@@ -58,18 +58,11 @@ impl Privilege {
         (self.operation.0 == 0) & (self.target.0 == 0)
     }
 
-    // The two are one.
-    pub fn same(self, other: Privilege) -> bool
-        ensures { result ≡ same_privilege (privilege_of self) (privilege_of other) }
-    {
-        (self.operation.0 == other.operation.0) & (self.target.0 == other.target.0)
-    }
-
     // Operation and target in one number.
     pub fn packed(self) -> Packed
         ensures { result.0 ≡ packed_of (privilege_of self) }
     {
-        Packed(self.operation.0 as u32 + 65536 * (self.target.0 as u32))
+        Packed(u32::from(self.operation.0) + 65536 * u32::from(self.target.0))
     }
 }
 
@@ -94,5 +87,5 @@ pub fn same(b: &[u8], at: usize, other: usize) -> bool
     requires { (at + 3 < length b.now) × (other + 3 < length b.now) }
     ensures { result ≡ same_privilege (privilege_at b.now at) (privilege_at b.now other) }
 {
-    Privilege::read(b, at).same(Privilege::read(b, other))
+    Privilege::read(b, at) == Privilege::read(b, other)
 }

@@ -1,7 +1,7 @@
 // Images as blocks: which lengths are whole blocks, how many records blocks hold, and where each record begins.
-ghost use Rattle.std.specs.Prelude.{◌≡◌, ◌≤◌};
-ghost use Rattle.format.specs.Layout.{capacity as capacity_of, table_blocks};
-ghost use Rattle.format.specs.Block.{good_length};
+ghost use Rattle.std.specs.Prelude.{◌≡◌, ◌+◌, ◌*◌, ◌≤◌, length};
+ghost use Rattle.format.specs.Layout.{block_bytes, capacity as capacity_of, table_blocks};
+ghost use Rattle.format.specs.Block.{block, good_length};
 ghost use Rattle.format.specs.Records.{record_start};
 
 use crate::layout::{BLOCK_BYTES, RECORD_BYTES, RECORDS_AT};
@@ -12,6 +12,18 @@ pub fn good_length(s: &[u8], most: usize) -> bool
 {
     let n = s.len() / BLOCK_BYTES;
     (BLOCK_BYTES * n == s.len()) & (1 <= n) & (n <= most)
+}
+
+// Block k of an image.
+pub fn block(image: &[u8], k: usize) -> &[u8; BLOCK_BYTES]
+    requires { block_bytes * k + block_bytes ≤ length image.now }
+    ensures { result.now ≡ block image.now k }
+{
+    let at = BLOCK_BYTES * k;
+    let Ok(bytes) = image[at..at + BLOCK_BYTES].try_into() else {
+        unreachable!()
+    };
+    bytes
 }
 
 // A number of table blocks.
