@@ -12,71 +12,31 @@ use borrow.Author.Tests.{eq-eqb, ne_eqb, lt-ltb, le-ltb, le-leb, lt-leb, eqb-tru
 use Rattle.words.specs.Bytes.{bit}
 use Rattle.word_laws.proofs.Bits.{bit-none}
 use Rattle.word_laws.proofs.BitLaws.{bit-or, bit-power}
-use Rattle.word_laws.proofs.Tests.{both_first, both-second, neither-first, neither-second}
+use Rattle.word_laws.proofs.Tests.{neither-first, neither-second}
 use Rattle.fields.specs.declared.blocks.BlockSet.{BlockSet}
 use Rattle.fields.specs.Code.{has_block, no_block}
 
--- where the block stands
-pub has-low : (set : BlockSet) (k : ℕ) → k < 64 → has_block set k ≡ bit k set.low
-unfolding has_block
-has-low set k h = rw (lt-ltb k 64 h)
-
-pub has-high : (set : BlockSet) (k : ℕ) → 64 ≤ k → has_block set k ≡ bit (k - 64) set.high
-unfolding has_block
-has-high set k h = rw (le-ltb k 64 h)
-
--- a set with no bit has no block
-pub has-none : (set : BlockSet) (k : ℕ) → eqb set.low 0 && eqb set.high 0 ≡ true → has_block set k ≡ false
-unfolding has_block
-has-none set k h =
-    let l = eqb-true set.low 0 (both_first (eqb set.low 0) (eqb set.high 0) h) in
-    let g = eqb-true set.high 0 (both-second (eqb set.low 0) (eqb set.high 0) h) in
-    rw (l, g, bit-none k, bit-none (k - 64)) (go (ltb k 64))
-  where
-    go : (b : Bool) → cond b false false ≡ false
-    go true = refl
-    go false = refl
-
 pub no-block : (k : ℕ) → has_block no_block k ≡ false
-no-block k = has-none no_block k refl
+unfolding has_block
+no-block k = bit-none k
 
 -- the number with one bit, as the code makes it
 pub power : (k : ℕ) → k < 64 → 1 * 2 ^ k % 2 ^ 64 ≡ 2 ^ k
 power k h = omega (arith, pow-lt {i = k} {j = 64} h)
 
-or-bit : (i k x : ℕ) → k < 64 → bit i (bit_or x (1 * 2 ^ k % 2 ^ 64)) ≡ eqb i k || bit i x
-or-bit i k x h = rw (power k h, bit-or i x (2 ^ k), bit-power i k) (turn (bit i x) (eqb i k))
+power128 : (k : ℕ) → k < 128 → 1 * 2 ^ k % 2 ^ 128 ≡ 2 ^ k
+power128 k h = omega (arith, pow-lt {i = k} {j = 128} h)
+
+-- one block more
+pub with-block : (x k i : ℕ) → k < 128 → has_block (record { 0 = bit_or x (1 * 2 ^ k % 2 ^ 128) }) i ≡ eqb i k || has_block (record { 0 = x }) i
+unfolding has_block
+with-block x k i h = rw (power128 k h, bit-or i x (2 ^ k), bit-power i k) (turn (bit i x) (eqb i k))
   where
     turn : (a b : Bool) → a || b ≡ b || a
     turn true true = refl
     turn true false = refl
     turn false true = refl
     turn false false = refl
-
--- one block more
-pub with-low : (low high k i : ℕ) → k < 64
-    → has_block (record { low = bit_or low (1 * 2 ^ k % 2 ^ 64); high = high }) i ≡ eqb i k || has_block (record { low = low; high = high }) i
-with-low low high k i h = go (dec_lt i 64)
-  where
-    go : Dec (i < 64) → has_block (record { low = bit_or low (1 * 2 ^ k % 2 ^ 64); high = high }) i ≡ eqb i k || has_block (record { low = low; high = high }) i
-    go (yes l) = rw (has-low (record { low = bit_or low (1 * 2 ^ k % 2 ^ 64); high = high }) i l, has-low (record { low = low; high = high }) i l) (or-bit i k low h)
-    go (no g) =
-        rw (has-high (record { low = bit_or low (1 * 2 ^ k % 2 ^ 64); high = high }) i (omega arith), has-high (record { low = low; high = high }) i (omega arith), ne_eqb i k (λ e. omega arith))
-
-pub with-high : (low high k i : ℕ) → 64 ≤ k → k < 128
-    → has_block (record { low = low; high = bit_or high (1 * 2 ^ (k - 64) % 2 ^ 64) }) i ≡ eqb i k || has_block (record { low = low; high = high }) i
-with-high low high k i lo hi = go (dec_lt i 64)
-  where
-    go : Dec (i < 64) → has_block (record { low = low; high = bit_or high (1 * 2 ^ (k - 64) % 2 ^ 64) }) i ≡ eqb i k || has_block (record { low = low; high = high }) i
-    go (yes l) = rw (has-low (record { low = low; high = bit_or high (1 * 2 ^ (k - 64) % 2 ^ 64) }) i l, has-low (record { low = low; high = high }) i l, ne_eqb i k (λ e. omega arith))
-    go (no g) =
-        let shifted : eqb (i - 64) (k - 64) ≡ eqb i k = same (eqb i k) refl in
-        rw (has-high (record { low = low; high = bit_or high (1 * 2 ^ (k - 64) % 2 ^ 64) }) i (omega arith), has-high (record { low = low; high = high }) i (omega arith))
-        (or-bit (i - 64) (k - 64) high (omega arith) ∙ ap (λ b. b || bit (i - 64) high) shifted)
-      where
-        same : (b : Bool) → eqb i k ≡ b → eqb (i - 64) (k - 64) ≡ b
-        same true e = eq-eqb (i - 64) (k - 64) (ap (λ (x : ℕ). x - 64) (eqb-true i k e))
-        same false e = ne_eqb (i - 64) (k - 64) (λ d. eqb-false i k e (omega arith))
 
 -- a range more, one block after the other
 pub range_none : (from i : ℕ) → leb from i && ltb i from ≡ false

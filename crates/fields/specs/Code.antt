@@ -1,6 +1,6 @@
 -- What the values of the code stand for.
 -- Assumes nothing.
-use Rattle.std.specs.Prelude.{ℕ, ◌+◌, ◌-◌, ◌*◌, ◌≤◌, ◌≡◌, Bool, cond, List, length, ltb}
+use Rattle.std.specs.Prelude.{ℕ, ◌+◌, ◌*◌, ◌≤◌, ◌≡◌, Bool, List, length}
 use Rattle.words.specs.Bytes.{bit}
 use Rattle.format.specs.Layout.{block_bytes, table_blocks, capacity}
 use Rattle.format.specs.Block.{blocks}
@@ -29,8 +29,8 @@ pub record HasRoom (table : List ℕ) (n : ℕ) : Type 0 where
 
 -- block k is in a set of blocks
 unfoldable pub has_block : BlockSet → ℕ → Bool
-has_block set k = cond (ltb k 64) (bit k set.low) (bit (k - 64) set.high)
+has_block set k = bit k set.0
 
 -- the set without a block
 abbrev pub no_block : BlockSet
-no_block = record { low = 0; high = 0 }
+no_block = record { 0 = 0 }

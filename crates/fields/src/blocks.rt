@@ -3,19 +3,16 @@ ghost use Rattle.std.specs.Prelude.{◌≡◌, ◌&&◌, ◌||◌, ℕ, ◌<◌,
 ghost use Rattle.format.specs.Layout.{table_blocks};
 ghost use Rattle.fields.specs.Code.{has_block, no_block};
 
-// A set of a table's blocks: block k below 64 at bit k of `low`, the others in `high`.
-#[derive(Clone, Copy)]
-pub struct BlockSet {
-    pub low: u64,
-    pub high: u64,
-}
+// A set of a table's blocks: block k at bit k.
+#[derive(Clone, Copy, Debug, PartialEq, Eq)]
+pub struct BlockSet(pub u128);
 
 impl BlockSet {
     // No block.
     pub fn none() -> Self
         ensures { result ≡ no_block }
     {
-        BlockSet { low: 0, high: 0 }
+        BlockSet(0)
     }
 
     // Block k is among them.
@@ -23,10 +20,7 @@ impl BlockSet {
         requires { k < table_blocks }
         ensures { result ≡ has_block self k }
     {
-        if k < 64 {
-            return (self.low >> k) % 2 == 1;
-        }
-        (self.high >> (k - 64)) % 2 == 1
+        (self.0 >> k) % 2 == 1
     }
 
     // These and block k.
@@ -34,16 +28,7 @@ impl BlockSet {
         requires { k < table_blocks }
         ensures { (i : ℕ) → has_block result i ≡ (eqb i k || has_block self i) }
     {
-        if k < 64 {
-            return BlockSet {
-                low: self.low | (1 << k),
-                high: self.high,
-            };
-        }
-        BlockSet {
-            low: self.low,
-            high: self.high | (1 << (k - 64)),
-        }
+        BlockSet(self.0 | (1 << k))
     }
 
     // These and the blocks from, .., to - 1.
