@@ -8,6 +8,10 @@ use Rattle.format.specs.Request.{Request, operation, target}
 use Rattle.format.specs.Rule.{Privilege}
 use Rattle.fields.specs.declared.privilege.Privilege as declared
 use Rattle.fields.specs.declared.blocks.BlockSet.{BlockSet}
+use Rattle.fields.specs.declared.kind.ExclusionKind.{ExclusionKind}
+use Rattle.fields.specs.declared.kind.ExclusionKind.TheVariants.{Roles, Privileges}
+use Rattle.fields.specs.declared.kind.Mark.{Mark}
+use Rattle.fields.specs.declared.kind.Mark.TheVariants.{Fixed, Every, Each, Range}
 
 -- a privilege, as the code hands it on
 abbrev pub privilege_of : declared.Privilege → Privilege
@@ -34,3 +38,15 @@ has_block set k = bit k set.0
 -- the set without a block
 abbrev pub no_block : BlockSet
 no_block = record { 0 = 0 }
+
+-- "Exclusion kind 1: members are roles .. Kind 2: operation, target"
+abbrev pub exclusion_code : ExclusionKind → ℕ
+exclusion_code Roles = 1
+exclusion_code Privileges = 2
+
+-- "Marks: 1 fixed .., 2 every, 3 each", and 4 a range
+abbrev pub mark_code : Mark → ℕ
+mark_code Fixed = 1
+mark_code Every = 2
+mark_code Each = 3
+mark_code Range = 4

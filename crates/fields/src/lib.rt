@@ -4,6 +4,7 @@
 
 pub mod blocks;
 pub mod field;
+pub mod kind;
 pub mod layout;
 pub mod number;
 pub mod privilege;
