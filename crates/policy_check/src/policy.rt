@@ -17,13 +17,12 @@ use fields::layout::{
     BLOCK_BYTES, KIND_AT, MOST_RULES, NUMBER_AT, PERMISSION_KIND, POLICY_BLOCKS, RULE_KIND,
     TOTAL_AT,
 };
-use fields::tables::good_length;
-use format::answer::{Fault, Refusal};
+use fields::tables::{block, good_length};
+use format::answer::Refusal;
 use sums::sum::Sum;
 
 // The header of block k of `total`, where `seen` says that a permission block came before it.
-fn good_header(b: &[u8], k: u32, total: u32, seen: bool) -> bool
-    requires { length b.now ≡ block_bytes }
+fn good_header(b: &[u8; BLOCK_BYTES], k: u32, total: u32, seen: bool) -> bool
     ensures { result ≡ good_header k total seen b.now }
 {
     let kind = u32_at(b, KIND_AT);
@@ -33,23 +32,14 @@ fn good_header(b: &[u8], k: u32, total: u32, seen: bool) -> bool
 }
 
 // The fault of block k of `total`, numbers upwards.
-fn block_fault(b: &[u8], k: u32, total: u32, seen: bool) -> Fault
-    requires { length b.now ≡ block_bytes }
+fn block_fault(b: &[u8; BLOCK_BYTES], k: u32, total: u32, seen: bool) -> Result<(), Refusal>
     ensures { fault_of result ≡ block_fault k total seen b.now }
 {
     if !good_check(b) {
-        return Fault::At(Refusal {
-            number: 2,
-            first: k,
-            second: 0,
-        });
+        return Err(Refusal::PolicyCheck(k));
     }
     if !good_header(b, k, total, seen) {
-        return Fault::At(Refusal {
-            number: 3,
-            first: k,
-            second: 0,
-        });
+        return Err(Refusal::PolicyHeader(k));
     }
     if u32_at(b, KIND_AT) == RULE_KIND {
         rule_fault(b, k)
@@ -59,35 +49,26 @@ fn block_fault(b: &[u8], k: u32, total: u32, seen: bool) -> Fault
 }
 
 // The first fault of the blocks in turn.
-fn blocks_fault(s: &[u8]) -> Fault
+fn blocks_fault(s: &[u8]) -> Result<(), Refusal>
     requires { blocks s.now < 4294967296 }
     ensures { fault_of result ≡ blocks_fault s.now }
 {
     let total = s.len() / BLOCK_BYTES;
     let mut seen = false;
     for k in 0..total {
-        let at = BLOCK_BYTES * k;
-        let end = at + BLOCK_BYTES;
-        let b = &s[at..end];
-        let fault = block_fault(b, k as u32, total as u32, seen);
-        let Fault::Nothing = fault else {
-            return fault;
-        };
+        let b = block(s, k);
+        block_fault(b, k as u32, total as u32, seen)?;
         seen = seen | (u32_at(b, KIND_AT) == PERMISSION_KIND);
     }
-    Fault::Nothing
+    Ok(())
 }
 
 // The check of a policy: its length, then each block in turn.
-pub fn policy_fault(s: &[u8]) -> Fault
+pub fn policy_fault(s: &[u8]) -> Result<(), Refusal>
     ensures { fault_of result ≡ policy_fault s.now }
 {
     if !good_length(s, POLICY_BLOCKS) {
-        return Fault::At(Refusal {
-            number: 1,
-            first: 0,
-            second: 0,
-        });
+        return Err(Refusal::PolicyLength);
     }
     blocks_fault(s)
 }
