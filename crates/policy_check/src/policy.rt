@@ -1,11 +1,10 @@
 // The policy image: its blocks in turn, and the number of its rules.
-ghost use Rattle.std.specs.Prelude.{◌≡◌, ◌<◌, length};
-ghost use Rattle.format.specs.Layout.{block_bytes};
+ghost use Rattle.std.specs.Prelude.{◌≡◌, ◌<◌, IfOk};
 ghost use Rattle.format.specs.Block.{blocks};
-ghost use Rattle.format.specs.Policy.{policy_fault, rule_count};
+ghost use Rattle.format.specs.Policy.{policy_fault, rule_count, stamp as stamp_in};
+ghost use Rattle.sums.specs.Code.{sums_of};
 ghost use Rattle.format.specs.Code.{fault_of};
 ghost use Rattle.std.proofs.Math.Option.{none};
-ghost use Rattle.policy_check.specs.Code.{CheckedIs};
 ghost use Rattle.policy_check.specs.Parts.{good_header, block_fault, blocks_fault};
 
 use crate::block::good_check;
@@ -88,20 +87,28 @@ pub fn rule_count(s: &[u8]) -> u32
     rules
 }
 
-// What the code above has of a policy that has passed its check: the number of its rules, and its stamp.
+// A policy that has passed its check: its image, the number of its rules, and its stamp.
 #[derive(Clone, Copy)]
-pub struct Checked {
+pub struct Policy<'a> {
+    pub image: &'a [u8],
     pub rules: u32,
     pub stamp: Sum,
+    ghost accepted: { policy_fault image.now ≡ none },
+    ghost rules_are: { rules ≡ rule_count image.now },
+    ghost stamp_is: { sums_of stamp ≡ stamp_in image.now },
 }
 
-// The same of such a policy.
-pub fn rules_and_stamp(s: &[u8]) -> Checked
-    requires { policy_fault s.now ≡ none }
-    ensures { CheckedIs s.now result }
-{
-    Checked {
-        rules: rule_count(s),
-        stamp: stamp_of(s),
+impl<'a> Policy<'a> {
+    // Any bytes as a policy.
+    pub fn check(image: &'a [u8]) -> Result<Policy<'a>, Refusal>
+        ensures fault { fault_of result ≡ policy_fault image.now }
+        ensures image { IfOk result (λ policy. policy.image.now ≡ image.now) }
+    {
+        policy_fault(image)?;
+        Ok(Policy {
+            image,
+            rules: rule_count(image),
+            stamp: stamp_of(image),
+        })
     }
 }
