@@ -1,6 +1,6 @@
 // The policy image: its blocks in turn, and the number of its rules.
 ghost use Rattle.std.specs.Prelude.{◌≡◌, ◌<◌, IfOk};
-ghost use Rattle.format.specs.Block.{blocks};
+ghost use Rattle.format.specs.Block.{block as block_of, blocks};
 ghost use Rattle.format.specs.Policy.{policy_fault, rule_count, stamp as stamp_in};
 ghost use Rattle.sums.specs.Code.{sums_of};
 ghost use Rattle.format.specs.Code.{fault_of};
@@ -110,5 +110,13 @@ impl<'a> Policy<'a> {
             rules: rule_count(image),
             stamp: stamp_of(image),
         })
+    }
+
+    // The block of the rule of an index, from 0.
+    pub fn rule(&self, i: u32) -> &'a [u8; BLOCK_BYTES]
+        requires { i < self.now.rules }
+        ensures { result.now ≡ block_of self.now.image.now i }
+    {
+        block(self.image, i as usize)
     }
 }
