@@ -6,7 +6,7 @@ ghost use Rattle.format.specs.Rule.{exclusion_at, rule_at, good_roles, good_priv
 ghost use Rattle.format.specs.Code.{fault_of};
 ghost use Rattle.exclusion_check.specs.Parts.{new_role, good_role, good_members, good_size, exclusions_fault};
 
-use fields::field::{u16_at, wide, zero_from};
+use fields::field::{u16_at, zero_from};
 use fields::layout::{
     BLOCK_BYTES, EXCLUSION_BYTES, EXCLUSION_KIND_AT, EXCLUSION_M_AT, EXCLUSION_N_AT, EXCLUSION_PAD_AT,
     EXCLUSIONS_AT, HIGHEST_ROLE, MEMBER_BYTES, MEMBER_PAD, MEMBERS_AT, MEMBERS_BYTES,
@@ -23,12 +23,7 @@ fn new_role(b: &[u8; BLOCK_BYTES], e: usize, i: usize) -> bool
 {
     let at = MEMBERS_AT + EXCLUSION_BYTES * e;
     let role = Role(u16_at(b, at + MEMBER_BYTES * i));
-    let mut good = true;
-    for j in 0..i {
-        let other = Role(u16_at(b, at + MEMBER_BYTES * j));
-        good = good & (other.0 != role.0);
-    }
-    good
+    (0..i).all(|j| Role(u16_at(b, at + MEMBER_BYTES * j)) != role)
 }
 
 // Member i of an exclusion of roles.
@@ -54,11 +49,7 @@ pub fn good_privileges(b: &[u8; BLOCK_BYTES], e: usize, n: usize) -> bool
     requires { (e < most_exclusions) × ((n ≤ most_members) × (n ≡ byte_at b.now (n_at + exclusion_bytes * e))) }
     ensures { result ≡ good_privileges (exclusion_at b.now e) }
 {
-    let mut good = true;
-    for i in 0..n {
-        good = good & privilege::full(b, MEMBERS_AT + EXCLUSION_BYTES * e + MEMBER_BYTES * i);
-    }
-    good
+    (0..n).all(|i| privilege::full(b, MEMBERS_AT + EXCLUSION_BYTES * e + MEMBER_BYTES * i))
 }
 
 // The n members, by the exclusion's kind.
@@ -95,7 +86,7 @@ fn good_exclusion(b: &[u8; BLOCK_BYTES], e: usize) -> bool
     ensures { result ≡ good_exclusion (exclusion_at b.now e) }
 {
     if good_size(b, e) {
-        let n = wide(b[EXCLUSION_N_AT + EXCLUSION_BYTES * e]) as usize;
+        let n = usize::from(b[EXCLUSION_N_AT + EXCLUSION_BYTES * e]);
         good_members(b, e, n)
             & zero_from(
                 b,
@@ -112,7 +103,7 @@ fn good_exclusion_at(b: &[u8; BLOCK_BYTES], e: usize) -> bool
     requires { e < most_exclusions }
     ensures { result ≡ good_exclusion_at (rule_at b.now) e }
 {
-    if (e as u32) < wide(b[EXCLUSIONS_AT]) {
+    if e < usize::from(b[EXCLUSIONS_AT]) {
         good_exclusion(b, e)
     } else {
         zero_from(b, EXCLUSION_KIND_AT + EXCLUSION_BYTES * e, EXCLUSION_BYTES)

@@ -1,6 +1,6 @@
 -- What the values of the code stand for.
 -- Assumes nothing.
-use Rattle.std.specs.Prelude.{Result, Ok, Err, ⊤}
+use Rattle.std.specs.Prelude.{Result, Ok, Err}
 use Rattle.std.proofs.Math.Option.{Option, none, some}
 use Rattle.format.specs.Answer.{Refusal, refusal}
 use Rattle.format.specs.declared.answer.Refusal.{Refusal as Refused}
@@ -37,6 +37,6 @@ text_refusal_of NotListed = refusal 42 0 0
 text_refusal_of NotWithin = refusal 43 0 0
 
 -- the answer of a check: nothing, or the refusal of the first fault
-abbrev pub fault_of : Result ⊤ Refused → Option Refusal
-fault_of (Ok _) = none
+abbrev pub fault_of : {A : Type 0} → Result A Refused → Option Refusal
+fault_of (Ok x) = none
 fault_of (Err r) = some (refusal_of r)

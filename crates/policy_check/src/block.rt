@@ -1,15 +1,13 @@
 // The check of a block.
-ghost use Rattle.std.specs.Prelude.{◌≡◌, length};
-ghost use Rattle.format.specs.Layout.{block_bytes};
+ghost use Rattle.std.specs.Prelude.{◌≡◌};
 ghost use Rattle.format.specs.Block.{good_check};
 
 use fields::field::u32_at;
-use fields::layout::{CHECK_AT, CHECK_B_AT, CHECKED_WORDS};
+use fields::layout::{BLOCK_BYTES, CHECK_AT, CHECK_B_AT, CHECKED_WORDS};
 use sums::sum::sum_words;
 
 // The check of a block: the two sums over the words before it.
-pub fn good_check(b: &[u8]) -> bool
-    requires { length b.now ≡ block_bytes }
+pub fn good_check(b: &[u8; BLOCK_BYTES]) -> bool
     ensures { result ≡ good_check b.now }
 {
     let sum = sum_words(b, 0, CHECKED_WORDS);

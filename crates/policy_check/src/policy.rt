@@ -1,11 +1,10 @@
 // The policy image: its blocks in turn, and the number of its rules.
-ghost use Rattle.std.specs.Prelude.{◌≡◌, ◌<◌, length};
-ghost use Rattle.format.specs.Layout.{block_bytes};
-ghost use Rattle.format.specs.Block.{blocks};
-ghost use Rattle.format.specs.Policy.{policy_fault, rule_count};
+ghost use Rattle.std.specs.Prelude.{◌≡◌, ◌<◌, IfOk};
+ghost use Rattle.format.specs.Block.{block as block_of, blocks};
+ghost use Rattle.format.specs.Policy.{policy_fault, rule_count, stamp as stamp_in};
+ghost use Rattle.sums.specs.Code.{sums_of};
 ghost use Rattle.format.specs.Code.{fault_of};
 ghost use Rattle.std.proofs.Math.Option.{none};
-ghost use Rattle.policy_check.specs.Code.{CheckedIs};
 ghost use Rattle.policy_check.specs.Parts.{good_header, block_fault, blocks_fault};
 
 use crate::block::good_check;
@@ -17,13 +16,12 @@ use fields::layout::{
     BLOCK_BYTES, KIND_AT, MOST_RULES, NUMBER_AT, PERMISSION_KIND, POLICY_BLOCKS, RULE_KIND,
     TOTAL_AT,
 };
-use fields::tables::good_length;
-use format::answer::{Fault, Refusal};
+use fields::tables::{block, good_length};
+use format::answer::Refusal;
 use sums::sum::Sum;
 
 // The header of block k of `total`, where `seen` says that a permission block came before it.
-fn good_header(b: &[u8], k: u32, total: u32, seen: bool) -> bool
-    requires { length b.now ≡ block_bytes }
+fn good_header(b: &[u8; BLOCK_BYTES], k: u32, total: u32, seen: bool) -> bool
     ensures { result ≡ good_header k total seen b.now }
 {
     let kind = u32_at(b, KIND_AT);
@@ -33,23 +31,14 @@ fn good_header(b: &[u8], k: u32, total: u32, seen: bool) -> bool
 }
 
 // The fault of block k of `total`, numbers upwards.
-fn block_fault(b: &[u8], k: u32, total: u32, seen: bool) -> Fault
-    requires { length b.now ≡ block_bytes }
+fn block_fault(b: &[u8; BLOCK_BYTES], k: u32, total: u32, seen: bool) -> Result<(), Refusal>
     ensures { fault_of result ≡ block_fault k total seen b.now }
 {
     if !good_check(b) {
-        return Fault::At(Refusal {
-            number: 2,
-            first: k,
-            second: 0,
-        });
+        return Err(Refusal::PolicyCheck(k));
     }
     if !good_header(b, k, total, seen) {
-        return Fault::At(Refusal {
-            number: 3,
-            first: k,
-            second: 0,
-        });
+        return Err(Refusal::PolicyHeader(k));
     }
     if u32_at(b, KIND_AT) == RULE_KIND {
         rule_fault(b, k)
@@ -59,35 +48,26 @@ fn block_fault(b: &[u8], k: u32, total: u32, seen: bool) -> Fault
 }
 
 // The first fault of the blocks in turn.
-fn blocks_fault(s: &[u8]) -> Fault
+fn blocks_fault(s: &[u8]) -> Result<(), Refusal>
     requires { blocks s.now < 4294967296 }
     ensures { fault_of result ≡ blocks_fault s.now }
 {
     let total = s.len() / BLOCK_BYTES;
     let mut seen = false;
     for k in 0..total {
-        let at = BLOCK_BYTES * k;
-        let end = at + BLOCK_BYTES;
-        let b = &s[at..end];
-        let fault = block_fault(b, k as u32, total as u32, seen);
-        let Fault::Nothing = fault else {
-            return fault;
-        };
+        let b = block(s, k);
+        block_fault(b, k as u32, total as u32, seen)?;
         seen = seen | (u32_at(b, KIND_AT) == PERMISSION_KIND);
     }
-    Fault::Nothing
+    Ok(())
 }
 
 // The check of a policy: its length, then each block in turn.
-pub fn policy_fault(s: &[u8]) -> Fault
+pub fn policy_fault(s: &[u8]) -> Result<(), Refusal>
     ensures { fault_of result ≡ policy_fault s.now }
 {
     if !good_length(s, POLICY_BLOCKS) {
-        return Fault::At(Refusal {
-            number: 1,
-            first: 0,
-            second: 0,
-        });
+        return Err(Refusal::PolicyLength);
     }
     blocks_fault(s)
 }
@@ -107,20 +87,36 @@ pub fn rule_count(s: &[u8]) -> u32
     rules
 }
 
-// What the code above has of a policy that has passed its check: the number of its rules, and its stamp.
+// A policy that has passed its check: its image, the number of its rules, and its stamp.
 #[derive(Clone, Copy)]
-pub struct Checked {
+pub struct Policy<'a> {
+    pub image: &'a [u8],
     pub rules: u32,
     pub stamp: Sum,
+    ghost accepted: { policy_fault image.now ≡ none },
+    ghost rules_are: { rules ≡ rule_count image.now },
+    ghost stamp_is: { sums_of stamp ≡ stamp_in image.now },
 }
 
-// The same of such a policy.
-pub fn rules_and_stamp(s: &[u8]) -> Checked
-    requires { policy_fault s.now ≡ none }
-    ensures { CheckedIs s.now result }
-{
-    Checked {
-        rules: rule_count(s),
-        stamp: stamp_of(s),
+impl<'a> Policy<'a> {
+    // Any bytes as a policy.
+    pub fn check(image: &'a [u8]) -> Result<Policy<'a>, Refusal>
+        ensures fault { fault_of result ≡ policy_fault image.now }
+        ensures image { IfOk result (λ policy. policy.image.now ≡ image.now) }
+    {
+        policy_fault(image)?;
+        Ok(Policy {
+            image,
+            rules: rule_count(image),
+            stamp: stamp_of(image),
+        })
+    }
+
+    // The block of the rule of an index, from 0.
+    pub fn rule(&self, i: u32) -> &'a [u8; BLOCK_BYTES]
+        requires { i < self.now.rules }
+        ensures { result.now ≡ block_of self.now.image.now i }
+    {
+        block(self.image, i as usize)
     }
 }

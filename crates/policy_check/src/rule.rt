@@ -6,15 +6,15 @@ ghost use Rattle.format.specs.Code.{fault_of};
 ghost use Rattle.policy_check.specs.Parts.{good_level_of, good_levels, step_at};
 
 use exclusion_check::exclusion::exclusions_fault;
-use fields::field::{u16_at, wide, zero_from};
+use fields::field::{u16_at, zero_from};
 use fields::layout::{
-    DEPTH_AT, EACH, EVERY, EXCLUSIONS_AT, FIRST_STEP_AT, FIXED, HAS_FIRST_AT, HAS_LAST_AT,
+    BLOCK_BYTES, DEPTH_AT, EACH, EVERY, EXCLUSIONS_AT, FIRST_STEP_AT, FIXED, HAS_FIRST_AT, HAS_LAST_AT,
     LAST_STEP_AT, LEVEL_BYTES, LEVEL_MARK_AT, LEVEL_PAD_AT, LEVEL_TAIL_AT, LEVEL_TYPE_AT,
     LEVEL_VALUE_AT, MOST_EXCLUSIONS, MOST_LEVELS, RANGE, RULE_SPARE_AT, RULE_SPARE_BYTES,
     RULE_TAIL_AT, RULE_TAIL_BYTES,
 };
 use fields::privilege;
-use format::answer::{Fault, Refusal};
+use format::answer::Refusal;
 
 // A mark with the value beside it: fixed has one, every and each have none.
 fn good_mark(mark: u8, value: u32) -> bool
@@ -34,8 +34,8 @@ fn good_values(mark: u8, value: u32, tail: u32) -> bool
 }
 
 // A used level.
-fn good_level(b: &[u8], i: usize) -> bool
-    requires { (length b.now ≡ block_bytes) × (i < most_levels) }
+fn good_level(b: &[u8; BLOCK_BYTES], i: usize) -> bool
+    requires { i < most_levels }
     ensures { result ≡ good_level (level_at b.now i) }
 {
     let at = LEVEL_BYTES * i;
@@ -47,8 +47,8 @@ fn good_level(b: &[u8], i: usize) -> bool
 }
 
 // A level of a rule of some depth: used, or past the depth and all zero.
-pub fn good_level_of(b: &[u8], depth: u32, i: usize) -> bool
-    requires { (length b.now ≡ block_bytes) × (i < most_levels) }
+pub fn good_level_of(b: &[u8; BLOCK_BYTES], depth: u32, i: usize) -> bool
+    requires { i < most_levels }
     ensures { result ≡ good_level_of depth (level_at b.now) i }
 {
     if (i as u32) < depth {
@@ -59,20 +59,15 @@ pub fn good_level_of(b: &[u8], depth: u32, i: usize) -> bool
 }
 
 // The four levels.
-fn good_levels(b: &[u8]) -> bool
-    requires { length b.now ≡ block_bytes }
+fn good_levels(b: &[u8; BLOCK_BYTES]) -> bool
     ensures { result ≡ good_levels (rule_at b.now) }
 {
-    let depth = wide(b[DEPTH_AT]);
-    let mut good = true;
-    for i in 0..MOST_LEVELS {
-        good = good & good_level_of(b, depth, i);
-    }
-    good
+    let depth = u32::from(b[DEPTH_AT]);
+    (0..MOST_LEVELS).all(|i| good_level_of(b, depth, i))
 }
 
 // A step: set and full, or neither.
-pub fn good_step(b: &[u8], flag: usize, at: usize) -> bool
+pub fn good_step(b: &[u8; BLOCK_BYTES], flag: usize, at: usize) -> bool
     requires { (flag < length b.now) × (at + 3 < length b.now) }
     ensures { result ≡ good_step (step_at b.now flag at) }
 {
@@ -80,8 +75,7 @@ pub fn good_step(b: &[u8], flag: usize, at: usize) -> bool
 }
 
 // The first and the last step, which are not equal where both are set.
-fn good_steps(b: &[u8]) -> bool
-    requires { length b.now ≡ block_bytes }
+fn good_steps(b: &[u8; BLOCK_BYTES]) -> bool
     ensures { result ≡ good_steps (rule_at b.now).first_step (rule_at b.now).last_step }
 {
     good_step(b, HAS_FIRST_AT, FIRST_STEP_AT)
@@ -92,8 +86,7 @@ fn good_steps(b: &[u8]) -> bool
 }
 
 // Depth, number of exclusions, levels and steps.
-fn good_rule(b: &[u8]) -> bool
-    requires { length b.now ≡ block_bytes }
+fn good_rule(b: &[u8; BLOCK_BYTES]) -> bool
     ensures { result ≡ good_rule (rule_at b.now) }
 {
     let exclusions = b[EXCLUSIONS_AT];
@@ -105,8 +98,7 @@ fn good_rule(b: &[u8]) -> bool
 }
 
 // What of a rule block is neither its first eight bytes, nor an exclusion, nor the check.
-fn good_rule_bytes(b: &[u8]) -> bool
-    requires { length b.now ≡ block_bytes }
+fn good_rule_bytes(b: &[u8; BLOCK_BYTES]) -> bool
     ensures { result ≡ good_rule_bytes b.now }
 {
     good_rule(b)
@@ -115,16 +107,11 @@ fn good_rule_bytes(b: &[u8]) -> bool
 }
 
 // The fault of rule block k: its own bytes first, then the first bad exclusion.
-pub fn rule_fault(b: &[u8], k: u32) -> Fault
-    requires { length b.now ≡ block_bytes }
+pub fn rule_fault(b: &[u8; BLOCK_BYTES], k: u32) -> Result<(), Refusal>
     ensures { fault_of result ≡ rule_fault k b.now }
 {
     if !good_rule_bytes(b) {
-        return Fault::At(Refusal {
-            number: 4,
-            first: k,
-            second: 0,
-        });
+        return Err(Refusal::RuleBytes(k));
     }
     exclusions_fault(b, k)
 }

@@ -1,19 +1,19 @@
 // The stamp of a policy that has passed. A good check is the sums over the other words of its block, so the checks are all that is read.
-ghost use Rattle.std.specs.Prelude.{◌≡◌, true, length};
+ghost use Rattle.std.specs.Prelude.{◌≡◌, true};
 ghost use Rattle.std.proofs.Math.Option.{none};
 ghost use Rattle.words.specs.Sums.{add_words, words};
-ghost use Rattle.format.specs.Layout.{block_bytes};
 ghost use Rattle.format.specs.Block.{good_check};
 ghost use Rattle.format.specs.Policy.{policy_fault, stamp};
 ghost use Rattle.sums.specs.Code.{sums_of};
 
 use fields::field::u32_at;
 use fields::layout::{BLOCK_BYTES, CHECK_AT, CHECK_B_AT};
+use fields::tables::block;
 use sums::sum::Sum;
 
 // The sums over one block more.
-fn add_block(sum: Sum, b: &[u8]) -> Sum
-    requires { (length b.now ≡ block_bytes) × (good_check b.now ≡ true) }
+fn add_block(sum: Sum, b: &[u8; BLOCK_BYTES]) -> Sum
+    requires { good_check b.now ≡ true }
     ensures { sums_of result ≡ add_words (sums_of sum) (words b.now) }
 {
     let check = Sum {
@@ -31,9 +31,7 @@ pub fn stamp_of(s: &[u8]) -> Sum
     let total = s.len() / BLOCK_BYTES;
     let mut sum = Sum { a: 1, b: 0 };
     for k in 0..total {
-        let at = BLOCK_BYTES * k;
-        let end = at + BLOCK_BYTES;
-        sum = add_block(sum, &s[at..end]);
+        sum = add_block(sum, block(s, k));
     }
     sum
 }

@@ -6,28 +6,28 @@ use Rattle.format.specs.Rule.{exclusion_at}
 use Rattle.exclusion_check.specs.Parts.{good_size}
 use Rattle.exclusion_check.proofs.BlankParts.{blank-members}
 use Rattle.exclusion_check.proofs.Sized.{few-members, by_members, bad-size}
-use Rattle.exclusion_check.proofs.exclusion.good_exclusion.Goals.{After-wide-n, Then-good_size}
+use Rattle.exclusion_check.proofs.exclusion.good_exclusion.Goals.{After-from-n, Then-good_size}
 use Rattle.exclusion_check.proofs.exclusion.good_exclusion.Goals as goal
 
 sized : (c : Then-good_size) → good_size (exclusion_at c.args.b.now c.args.e) ≡ true
 sized c = sym c.good_size.ensures ∙ c.if-good_size.true
 
-few : (c : After-wide-n) → c.wide-n.result ≤ 8
+few : (c : After-from-n) → c.from-n.result ≤ 8
 few c =
     let a = c.args in
-    rw c.wide-n.ensures.0 (few-members (exclusion_at a.b.now a.e) (sized (goal.at.After-wide-n c).Then-good_size))
+    rw c.from-n.ensures (few-members (exclusion_at a.b.now a.e) (sized (goal.at.After-from-n c).Then-good_size))
 
 pub good_members-requires : goal.good_members-requires
 good_members-requires c = omega (arith, few c)
 
 pub overflow_mul-n-then-good_size : goal.overflow_mul-n-then-good_size
-overflow_mul-n-then-good_size c = omega (arith, few (goal.at.overflow_mul-n-then-good_size c).After-wide-n)
+overflow_mul-n-then-good_size c = omega (arith, few (goal.at.overflow_mul-n-then-good_size c).After-from-n)
 
 pub overflow_sub-n : goal.overflow_sub-n
-overflow_sub-n c = omega (arith, few (goal.at.overflow_sub-n c).After-wide-n)
+overflow_sub-n c = omega (arith, few (goal.at.overflow_sub-n c).After-from-n)
 
 pub zero_from-requires : goal.zero_from-requires
-zero_from-requires c = omega (arith, few (goal.at.zero_from-requires c).After-wide-n)
+zero_from-requires c = omega (arith, few (goal.at.zero_from-requires c).After-from-n)
 
 pub returns-then-good_size : goal.returns-then-good_size
 returns-then-good_size c =

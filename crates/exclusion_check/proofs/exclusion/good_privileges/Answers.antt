@@ -1,21 +1,8 @@
-use Prim.Native.Nat.{◌+◌, ◌*◌}
-use mathlib.Core.Path.{◌≡◌}
-use native.Mathlib.Numerals.{add-one}
-use native.Mathlib.Omega.{arith}
-use Rattle.words.specs.Bytes.{byte_at}
-use Rattle.words.specs.Lists.{all_below}
-use Rattle.format.specs.Rule.{good_privileges}
-use borrow.Author.Rules.{rules}
+use Rattle.std.proofs.Common.{rules}
+use Rattle.word_laws.proofs.Chains.{all_below-from_all}
+use Rattle.format.specs.Rule.{exclusion_at, full_privilege, good_privileges}
 use Rattle.exclusion_check.proofs.exclusion.good_privileges.Goals as goal
-
-pub loop-i-init : goal.loop-i-init
-unfolding all_below
-loop-i-init c = search rules
-
-pub loop-i-preserved : goal.loop-i-preserved
-unfolding all_below
-loop-i-preserved c = (omega arith, rw add-one (cc))
 
 pub returns : goal.returns
 unfolding good_privileges
-returns c = let a = c.args in let l = c.loop-i in let e : l.i ≡ byte_at a.b.now (58 + 36 * a.e) = omega arith in rw e at l.invariant.1
+returns c = let a = c.args in rw (← c.requires.1.1) (all_below-from_all (λ i. full_privilege ((exclusion_at a.b.now a.e).member i)) a.n _ _ _ c.all.ensures.ran (λ x b q k. search rules))

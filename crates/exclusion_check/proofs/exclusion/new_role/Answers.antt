@@ -1,17 +1,12 @@
-use mathlib.Core.Path.{◌≡◌}
-use native.Mathlib.Numerals.{add-one}
-use native.Mathlib.Omega.{arith}
-use Rattle.words.specs.Lists.{all_below}
-use borrow.Author.Rules.{rules}
+use Rattle.std.proofs.Common.{rules}
+use mathlib.Core.Bool.{not}
+use lib.Dec.{eqb}
+use Rattle.word_laws.proofs.Chains.{all_below-from_all}
+use Rattle.format.specs.Rule.{exclusion_at}
 use Rattle.exclusion_check.proofs.exclusion.new_role.Goals as goal
 
-pub loop-j-init : goal.loop-j-init
-unfolding all_below
-loop-j-init c = search rules
-
-pub loop-j-preserved : goal.loop-j-preserved
-unfolding all_below
-loop-j-preserved c = (omega arith, rw (add-one c.loop-j.j) (cc))
-
 pub returns : goal.returns
-returns c = let e : c.loop-j.j ≡ c.args.i = omega arith in rw e at c.loop-j.invariant.1
+returns c =
+    let a = c.args in
+    let x = exclusion_at a.b.now a.e in
+    all_below-from_all (λ j. not (eqb (x.member j).operation (x.member a.i).operation)) a.i _ _ _ c.all.ensures.ran (λ x b q k. search rules)

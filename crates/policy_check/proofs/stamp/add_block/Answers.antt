@@ -22,4 +22,4 @@ returns c =
     (c.add.ensures
     ∙ ap₂ {C = Sums} add_word (k.add_checked.ensures ∙ ap₂ (λ (x y : ℕ). go_on sum 126 (record { a = x; b = y })) a b) a)
     b
-    ∙ sym (block-sums s.args.b.now s.requires.0 s.requires.1 sum fit)
+    ∙ sym (block-sums s.args.b.now s.told-b s.requires sum fit)

@@ -19,15 +19,14 @@ add_block-sum-requires c =
     let a = (goal.at.add_block-sum-requires c).At-loop-k in
     let image = c.args.s.now in
     let k = a.loop-k.k in
-    rw (block-part image k)
-    (part_length image (512 * k) 512 (omega (arith, c.loop-k-test.true)), accepted-check image c.requires k (omega (arith, c.loop-k-test.true)))
+    rw c.block.ensures (accepted-check image c.requires k (omega (arith, c.loop-k-test.true)))
 
 pub loop-k-preserved : goal.loop-k-preserved
 loop-k-preserved c =
     let a = (goal.at.loop-k-preserved c).At-loop-k in
     let image = c.args.s.now in
     let k = a.loop-k.k in
-    let done = rw (block-part image k) at c.add_block-sum.ensures in (
+    let done = rw c.block.ensures at c.add_block-sum.ensures in (
       omega arith,
       rw (add-one k)
           (done ∙ ap (λ (t : Sums). add_words t (words (block image k))) a.loop-k.invariant.1
