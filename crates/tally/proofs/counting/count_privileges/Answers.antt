@@ -1,5 +1,6 @@
 use Rattle.word_laws.proofs.Below.{sum_more, sum-all}
 use Rattle.words.specs.Lists.{sum_below}
+use lib.ListN.{length}
 use native.Mathlib.Omega.{arith}
 use mathlib.Core.Path.{refl}
 use Rattle.tally.specs.Code.{members_count}
@@ -12,9 +13,9 @@ loop-k-init c = (omega arith, (refl, omega arith))
 pub loop-k-preserved : goal.loop-k-preserved
 loop-k-preserved c =
     let l = c.loop-k in
-    let count-member = c.count_member-count in
-    (omega arith, (sum_more _ l.k l.count count-member.result l.invariant.1.0 count-member.ensures.0, omega arith))
+    let counts = c.count_member-count in
+    (omega arith, (sum_more _ l.k l.count counts.result l.invariant.1.0 counts.ensures.0, omega arith))
 
 pub returns : goal.returns
 unfolding members_count
-returns c = sum-all _ c.loop-k.k c.args.n _ c.loop-k.invariant.1.0 (omega arith)
+returns c = sum-all _ c.loop-k.k (length c.args.members.now) _ c.loop-k.invariant.1.0 (omega arith)
