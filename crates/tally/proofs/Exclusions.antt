@@ -6,7 +6,7 @@ use mathlib.Core.Path.{◌≡◌, refl, sym, ap, ◌∙◌}
 use mathlib.Core.Bool.{Bool, true, false, cond, ◌&&◌, ◌||◌}
 use mathlib.Core.List.{List}
 use borrow.Author.Tests.{leb-true, eqb-true, eq-eqb, ne_eqb}
-use lib.ListN.{length, get_or, take}
+use lib.ListN.{length, take}
 use lib.Seq.{get_or-take, length-take-le}
 use lib.Dec.{eqb, leb, ltb}
 use Rattle.words.specs.Lists.{keep, any_of, all_below}

@@ -1,17 +1,18 @@
 -- Lists that grow by one element at their end, and lists that are replaced element by element.
 -- Assumes nothing.
-use Prim.Native.Nat.{ℕ, zero, suc, ◌+◌, ◌≤◌, ◌<◌}
+use Prim.Native.Nat.{ℕ, zero, suc, ◌+◌, ◌*◌, ◌≤◌, ◌<◌}
 use native.Mathlib.Omega.{arith}
 use mathlib.Core.Path.{◌≡◌, refl, sym, ap, ◌∙◌}
 use mathlib.Core.Bool.{Bool, true, false, cond, ◌||◌, or-false}
 use mathlib.Core.List.{List, [], ◌∷◌, ◌++◌}
 use lib.ListN.{length, get_or, set, take, length-append}
 use lib.Seq.{get_or-set_same, get_or-set_other}
-use Rattle.std.specs.List.{count_by, list_any}
-use Rattle.std.proofs.lemmas.List.Sums.{sum_by-cons}
+use Rattle.std.specs.List.{count_by, filter, list_any, range_with_len, sum_by}
+use Rattle.std.proofs.lemmas.List.Sums.{length-filter, sum_by-cons}
 use Rattle.words.specs.Lists.{keep, any_of, any_below, sum_below}
 use Rattle.word_laws.proofs.Keep.{keep_append, any_of-append, keep-split}
 use Rattle.word_laws.proofs.Tests.{below_suc}
+use Rattle.word_laws.proofs.Below.{sum_below-same}
 
 -- ---- one element more
 
@@ -62,6 +63,27 @@ any_below-first (suc n) f = ap (λ (b : Bool). b || f (suc n)) (any_below-first 
     or_assoc : (x y z : Bool) → (x || y) || z ≡ x || (y || z)
     or_assoc true y z = refl
     or_assoc false y z = refl
+
+sum_by-range : (f : ℕ → ℕ) (k n : ℕ) → sum_by f (range_with_len k n) ≡ sum_below n (λ i. f (k + i))
+unfolding sum_below
+sum_by-range f k zero = refl
+sum_by-range f k (suc n) =
+    sum_by-cons f k (range_with_len (k + 1) n)
+    ∙ ap (λ (m : ℕ). f k + m) (sum_by-range f (k + 1) n ∙ sum_below-same n _ _ (λ i h. ap f (omega arith)))
+    ∙ ap (λ (j : ℕ). f j + sum_below n (λ i. f (k + suc i))) (omega arith)
+    ∙ sym (sum_below-first n (λ i. f (k + i)))
+
+-- the sum, and how many `filter` takes, of 0, 1, .., n - 1
+pub sum-range : (f : ℕ → ℕ) (n : ℕ) → sum_by f (range_with_len 0 n) ≡ sum_below n f
+sum-range f n = sum_by-range f 0 n ∙ sum_below-same n _ _ (λ i h. ap f (omega arith))
+
+pub filter-range : (t : ℕ → Bool) (n : ℕ) → length (filter t (range_with_len 0 n)) ≡ sum_below n (λ i. cond (t i) 1 0)
+filter-range t n = length-filter t (range_with_len 0 n) ∙ sum-range (λ i. cond (t i) 1 0) n
+
+pub sum-few : (f : ℕ → ℕ) (m n : ℕ) → ((i : ℕ) → f i ≤ m) → sum_below n f ≤ m * n
+unfolding sum_below
+sum-few f m zero h = omega arith
+sum-few f m (suc n) h = let e : m * suc n ≡ m * n + m = omega arith in omega (arith, sum-few f m n h, h n, e)
 
 module _ {A : Type 0} (t : A → Bool) (d : A) where
   pub count_by-below : (l : List A) → count_by t l ≡ sum_below (length l) (λ j. cond (t (get_or l j d)) 1 0)

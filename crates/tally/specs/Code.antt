@@ -45,9 +45,12 @@ pub record TallyOf (x : Exclusion) (qs : List Request) (t : Tally) : Type 0 wher
 
 -- ---- what the members count
 
--- "Kind 1: how many member roles appear": of the n members of exclusion e in a block, those among these roles
+-- "Kind 1: how many member roles appear": of the members of exclusion e in a block, member k is among these roles; and how many of the first n are
+abbrev pub has_member : List ℕ → ℕ → ℕ → ℕ → Bool
+has_member b e k all = bit (u16_at b (members_at + exclusion_bytes * e + member_bytes * k) - 1) all
+
 unfoldable pub roles_among : List ℕ → ℕ → ℕ → ℕ → ℕ
-roles_among b e n all = sum_below n (λ k. cond (bit (u16_at b (members_at + exclusion_bytes * e + member_bytes * k) - 1) all) 1 0)
+roles_among b e n all = sum_below n (λ k. cond (has_member b e k all) 1 0)
 
 -- the "times listed" of member k among these; and whether it repeats an earlier one
 unfoldable pub listed : List Counted → ℕ → ℕ

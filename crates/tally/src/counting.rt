@@ -3,7 +3,7 @@
 ghost use Rattle.std.specs.Prelude.{◌≡◌, ℕ, ◌+◌, ◌*◌, ◌%◌, ◌<◌, ◌≤◌, cond, eqb, length};
 ghost use Rattle.words.specs.Bytes.{u16_at};
 ghost use Rattle.format.specs.Layout.{members_at, exclusion_bytes, member_bytes, highest_role, most_members, most_exclusions};
-ghost use Rattle.tally.specs.Code.{roles_among, listed, repeated, member_counts, members_count};
+ghost use Rattle.tally.specs.Code.{has_member, roles_among, listed, repeated, member_counts, members_count};
 
 use fields::field::u16_at;
 use fields::layout::{BLOCK_BYTES, EXCLUSION_BYTES, MEMBER_BYTES, MEMBERS_AT};
@@ -36,18 +36,21 @@ impl Counted {
     }
 }
 
+// Member k of an exclusion of roles is among these.
+fn has_member(b: &[u8; BLOCK_BYTES], e: usize, k: usize, roles: Roles) -> bool
+    requires { (e < most_exclusions) × (k < most_members) × (1 ≤ u16_at b.now (members_at + exclusion_bytes * e + member_bytes * k)) × (u16_at b.now (members_at + exclusion_bytes * e + member_bytes * k) ≤ highest_role) }
+    ensures { result ≡ has_member b.now e k roles.0 }
+{
+    roles.has(Role(u16_at(b, MEMBERS_AT + EXCLUSION_BYTES * e + MEMBER_BYTES * k)))
+}
+
 // How many of an exclusion's n member roles are among these.
 pub fn count_roles(b: &[u8; BLOCK_BYTES], e: usize, n: usize, roles: Roles) -> u32
     requires b_len { (e < most_exclusions) × (n ≤ most_members) }
     requires by_index { (k : ℕ) → k < n → (1 ≤ u16_at b.now (members_at + exclusion_bytes * e + member_bytes * k)) × (u16_at b.now (members_at + exclusion_bytes * e + member_bytes * k) ≤ highest_role) }
     ensures { result ≡ roles_among b.now e n roles.0 }
 {
-    let mut count = 0u32;
-    for k in 0..n {
-        let role = Role(u16_at(b, MEMBERS_AT + EXCLUSION_BYTES * e + MEMBER_BYTES * k));
-        count += u32::from(roles.has(role));
-    }
-    count
+    (0..n).filter(|k| has_member(b, e, *k, roles)).count() as u32
 }
 
 // An earlier member is the same as member k.
@@ -94,9 +97,5 @@ pub fn count_privileges(members: &[Counted]) -> u32
     requires { length members.now ≤ most_members }
     ensures { result ≡ members_count members.now }
 {
-    let mut count = 0u32;
-    for k in 0..members.len() {
-        count += count_member(members, k);
-    }
-    count
+    (0..members.len()).map(|k| count_member(members, k)).sum()
 }

@@ -1,7 +1,6 @@
 use Rattle.tally.specs.Code.{deed_of}
 use Rattle.word_laws.proofs.Parts.{part-whole}
 use Rattle.word_laws.proofs.Lists.{get_d_map}
-use Rattle.format.specs.Request.{Request}
 use Rattle.format.specs.Rule.{exclusion_at}
 use Rattle.tally.specs.declared.deed.Deed.{Deed}
 use lib.ListN.{length, get_or, take, length-append}
@@ -10,8 +9,8 @@ use lib.Seq.{take-suc, take_all, length-take-le}
 use native.Mathlib.Numerals.{add-one}
 use native.Mathlib.Omega.{arith}
 use mathlib.Core.List.{List, [], ◌∷◌, ◌++◌}
-use mathlib.Core.Path.{◌≡◌, ap, ◌∙◌}
-use Prim.Native.Nat.{ℕ, ◌+◌, ◌≤◌, ◌<◌}
+use mathlib.Core.Path.{ap, ◌∙◌}
+use Prim.Native.Nat.{◌≤◌, ◌<◌}
 use Rattle.tally.proofs.tallies.reaches.Goals as goal
 
 pub loop-deed-preserved : goal.loop-deed-preserved

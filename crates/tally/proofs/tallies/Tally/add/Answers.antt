@@ -1,10 +1,7 @@
 use Rattle.tally.proofs.Taken.{is_next, counting-none, counting_more, roles-taken, done-taken}
 use native.Mathlib.Omega.{arith}
 use mathlib.Core.Path.{◌≡◌, refl, ap, ◌∙◌}
-use Prim.Native.Nat.{ℕ, ◌+◌, ◌%◌}
 use lib.Bits.{bit_or}
-use lib.ListN.{get_or}
-use Rattle.fields.specs.declared.sets.Roles.{Roles}
 use Rattle.tally.specs.declared.deed.Deed.{Deed}
 use Rattle.tally.proofs.tallies.Tally.add.Goals as goal
 
