@@ -1,6 +1,6 @@
 // The check of a context, that of a request or one that is handed over by itself, and how many levels it uses. The words of 4 bytes that hold its levels
 // are read whole and parted after that: a table has many to look at.
-ghost use Rattle.std.specs.Prelude.{◌≡◌, cond, ◌+◌, ◌≤◌, length};
+ghost use Rattle.std.specs.Prelude.{◌≡◌, cond, ◌+◌, ◌≤◌, length, IfOk};
 ghost use Rattle.words.specs.Bytes.{part};
 ghost use Rattle.format.specs.Layout.{context_bytes};
 ghost use Rattle.format.specs.Request.{depth_of, good_context};
@@ -10,7 +10,7 @@ ghost use Rattle.format.specs.Code.{fault_of};
 
 use fields::field::u32_at;
 use fields::layout::{CONTEXT_BYTES, CONTEXT_LEVEL_BYTES};
-use format::answer::{Fault, Refusal};
+use format::answer::Refusal;
 
 // Where the words of a context's levels stand behind its first.
 const SECOND_AT: usize = CONTEXT_LEVEL_BYTES;
@@ -98,23 +98,16 @@ pub fn good_context(s: &[u8], at: usize) -> bool
     )
 }
 
-// The check of a context that is handed over by itself: its length, and then its levels.
-pub fn context_fault(c: &[u8]) -> Fault
-    ensures { fault_of result ≡ context_fault c.now }
+// The check of a context that is handed over by itself: its length, and then its levels. One that has passed comes back as an array.
+pub fn context_fault(c: &[u8]) -> Result<&[u8; CONTEXT_BYTES], Refusal>
+    ensures fault { fault_of result ≡ context_fault c.now }
+    ensures context { IfOk result (λ context. context.now ≡ c.now) }
 {
-    if c.len() != CONTEXT_BYTES {
-        return Fault::At(Refusal {
-            number: 21,
-            first: 0,
-            second: 0,
-        });
+    let Ok(context) = <&[u8; CONTEXT_BYTES]>::try_from(c) else {
+        return Err(Refusal::Length);
+    };
+    if !good_context(context, 0) {
+        return Err(Refusal::Field);
     }
-    if !good_context(c, 0) {
-        return Fault::At(Refusal {
-            number: 22,
-            first: 0,
-            second: 0,
-        });
-    }
-    Fault::Nothing
+    Ok(context)
 }

@@ -1,5 +1,5 @@
 // The check of a request.
-ghost use Rattle.std.specs.Prelude.{◌≡◌, ◌+◌, ◌≤◌, length};
+ghost use Rattle.std.specs.Prelude.{◌≡◌, ◌+◌, ◌≤◌, length, IfOk};
 ghost use Rattle.words.specs.Bytes.{part};
 ghost use Rattle.format.specs.Layout.{request_bytes};
 ghost use Rattle.format.specs.Request.{context_of, depth_of, good_request, request_fault};
@@ -9,7 +9,7 @@ use crate::context;
 use crate::context::good_context;
 use fields::layout::{CONTEXT_AT, REQUEST_BYTES};
 use fields::request;
-use format::answer::{Fault, Refusal};
+use format::answer::Refusal;
 
 // The depth of the request's context.
 pub fn depth(s: &[u8], at: usize) -> u32
@@ -36,23 +36,16 @@ pub fn good_request(s: &[u8], at: usize) -> bool
     good_context(s, at + CONTEXT_AT)
 }
 
-// The check of a request: its length, and then its fields.
-pub fn request_fault(q: &[u8]) -> Fault
-    ensures { fault_of result ≡ request_fault q.now }
+// The check of a request: its length, and then its fields. One that has passed comes back as an array.
+pub fn request_fault(q: &[u8]) -> Result<&[u8; REQUEST_BYTES], Refusal>
+    ensures fault { fault_of result ≡ request_fault q.now }
+    ensures request { IfOk result (λ request. request.now ≡ q.now) }
 {
-    if q.len() != REQUEST_BYTES {
-        return Fault::At(Refusal {
-            number: 21,
-            first: 0,
-            second: 0,
-        });
+    let Ok(request) = <&[u8; REQUEST_BYTES]>::try_from(q) else {
+        return Err(Refusal::Length);
+    };
+    if !good_request(request, 0) {
+        return Err(Refusal::Field);
     }
-    if !good_request(q, 0) {
-        return Fault::At(Refusal {
-            number: 22,
-            first: 0,
-            second: 0,
-        });
-    }
-    Fault::Nothing
+    Ok(request)
 }
