@@ -8,7 +8,7 @@ ghost use Rattle.format.specs.Table.{table_image, records_of};
 ghost use Rattle.format.specs.Records.{records_here};
 ghost use Rattle.format.specs.Altered.{altered_blocks};
 ghost use Rattle.clearing.specs.Cleared.{Ready};
-ghost use Rattle.answers.specs.Code.{answer_of, granted_of, outcome, written_of};
+ghost use Rattle.answers.specs.Code.{counted_of, granted_of, outcome, written_of};
 ghost use Rattle.update.specs.Updating.{Judged, update_of};
 
 use crate::table_after::write_after;
@@ -46,7 +46,7 @@ pub fn update(
 ) -> Result<Counted<Grant>, Refusal>
     requires ready { Ready ending q.now table.old n }
     requires table_value { table.old ≡ table_image (sums_of stamp) (blocks table.old) (records_here table.old n) }
-    ensures { (policy : List ℕ) → Judged policy (sums_of stamp) ending gives q.now table.old n → (outcome (granted_of (answer_of result)) table.new ≡ update_of policy table.old q.now) × (written_of result ≡ altered_blocks (blocks table.old) (records_of table.old) (records_of table.new)) }
+    ensures { (policy : List ℕ) → Judged policy (sums_of stamp) ending gives q.now table.old n → (outcome (granted_of (counted_of result)) table.new ≡ update_of policy table.old q.now) × (written_of result ≡ altered_blocks (blocks table.old) (records_of table.old) (records_of table.new)) }
 {
     let room = Blocks(table.len() / BLOCK_BYTES).capacity();
     if !has_room(ending, gives, q, table, n, room) {
