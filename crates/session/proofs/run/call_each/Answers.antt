@@ -3,9 +3,27 @@ use native.Mathlib.Omega.{arith}
 use lib.ListN.{length}
 use Rattle.session.proofs.Turns.{running_more, running-table, running-out}
 use borrow.Author.Rules.{rules}
+use Prim.Native.Nat.{ℕ, ◌*◌}
+use mathlib.Core.Path.{ap, ◌∙◌}
+use mathlib.Core.List.{List, [], ◌∷◌}
+use lib.Seq.{sets}
+use Rattle.format.specs.Answer.{Outcome}
+use Rattle.answers.specs.Code.{outcome}
+use Rattle.answers.specs.Numbers.{Four}
+use Rattle.register.specs.Calls.{call_step}
+use Rattle.session.specs.Session.{call_of, four_numbers}
+use Rattle.session.proofs.run.call_each.Goals.{After-put_answer}
 use Rattle.session.proofs.run.call_each.Goals as goal
 
+-- what the register's step says of the call of a turn, and four numbers in turn
+step : (c : After-put_answer) → Outcome (List ℕ)
+step c = ?
+
+in-turn : Four → List ℕ
+in-turn f = f.number ∷ f.first ∷ f.second ∷ f.third ∷ []
+
 pub loop-i-preserved : goal.loop-i-preserved
+unfolding four_numbers
 loop-i-preserved c =
     let l = c.loop-i in
     let asked = c.requires in (
