@@ -38,9 +38,9 @@ record_count-held-requires c = accepted-small _ _ (sym c.in_ok-table_fault.ensur
 stands : (k : After-record_count-held) → let a = k.args in Standing k.in_ok-checked.checked.image.now (sums_of k.in_ok-checked.checked.stamp) a.table.now k.record_count-held.result
 stands k = standing (slice-bytes _ k.type_inv.table) (sym k.in_ok-table_fault.ensures) k.in_ok-checked.checked.stamp_is k.record_count-held.ensures
 
-pub verdict_of-verdict-requires : goal.verdict_of-verdict-requires
-verdict_of-verdict-requires c =
-    record { each_is = c.each_of-each.ensures; has_room = (stands (goal.at.verdict_of-verdict-requires c).After-record_count-held).room }
+pub verdict_of-requires-clause-has_room : goal.verdict_of-requires-clause-has_room
+verdict_of-requires-clause-has_room c =
+    (stands (goal.at.verdict_of-requires-clause-has_room c).After-record_count-held).room
 
 pub returns-in_err-verdict : goal.returns-in_err-verdict
 returns-in_err-verdict c =
