@@ -1,5 +1,4 @@
 pub mod Numbers
-pub mod Zeroed
 pub mod Rows
 pub mod Elements
 pub mod Counted

@@ -14,15 +14,12 @@ pub fn put_pair(s: &mut [u8], at: usize, x: u16, y: u16)
     requires { at + 4 ≤ length s.old }
     ensures { s.new ≡ over s.old at 4 (bytes2 x ++ bytes2 y) }
 {
-    put_u32(s, at, x as u32 + 65536 * (y as u32));
+    put_u32(s, at, u32::from(x) + 65536 * u32::from(y));
 }
 
 // One more, up to the highest count.
 pub fn counted(n: u8) -> u8
     ensures { result ≡ min highest_count (n + 1) }
 {
-    if n < HIGHEST_COUNT {
-        return n + 1;
-    }
-    HIGHEST_COUNT
+    n.saturating_add(1).min(HIGHEST_COUNT)
 }

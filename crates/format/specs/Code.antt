@@ -40,3 +40,8 @@ text_refusal_of NotWithin = refusal 43 0 0
 abbrev pub fault_of : {A : Type 0} → Result A Refused → Option Refusal
 fault_of (Ok x) = none
 fault_of (Err r) = some (refusal_of r)
+
+-- the same of what reads or writes a text
+abbrev pub text_fault_of : {A : Type 0} → Result A TextRefusal → Option Refusal
+text_fault_of (Ok x) = none
+text_fault_of (Err r) = some (text_refusal_of r)

@@ -6,10 +6,14 @@ use mathlib.Core.Path.{◌≡◌, refl, ◌∙◌}
 use mathlib.Core.Bool.{true}
 use mathlib.Core.List.{List}
 use mathlib.Core.Option.{Option, none, some}
+use Rattle.std.specs.declared.option.Option.{Option as Found}
+use Rattle.std.specs.declared.option.Option.TheVariants.{None, Some}
+use Rattle.std.specs.Option.{unwrap_or}
 use Rattle.word_laws.proofs.Bytes.{Byte}
 use Rattle.word_laws.proofs.Every.{Every, every-get_d}
 use Rattle.xml.specs.Names.{name_in, good_names, number_of}
 use Rattle.xml.specs.Read.{listed, or_zero}
+use Rattle.names.specs.Code.{number_found}
 use Rattle.names.proofs.GoodEntries.{entry_at}
 use Rattle.names.proofs.LookUps.{Named, number-found}
 
@@ -28,6 +32,12 @@ module _ (l : List ℕ) (k n : ℕ) (w : List ℕ) where
       omega (arith, x.number)
 
 -- ---- the number that a look-up gives, 0 for none
+
+-- the number of the code, 0 for none
+pub unwrap_or-found : (o : Found ℕ) → unwrap_or o 0 ≡ or_zero (number_found o)
+unfolding or_zero
+unwrap_or-found None = refl
+unwrap_or-found (Some n) = refl
 
 -- a number that is not 0 was found
 pub found_number : (o : Option ℕ) → (or_zero o ≡ 0 → ⊥) → o ≡ some (or_zero o)

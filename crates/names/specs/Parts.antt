@@ -1,13 +1,11 @@
 -- Parts of a list's check and of a look-up that a function of the code computes.
 -- Assumes nothing.
-use Rattle.std.specs.Prelude.{ℕ, ◌+◌, ◌*◌, ◌<◌, Bool, cond, ◌&&◌, List, eqb, ltb}
+use Rattle.std.specs.Prelude.{ℕ, ◌+◌, ◌*◌, Bool, cond, ◌&&◌, List, eqb, ltb}
 use Rattle.std.proofs.Math.Option.{Option, none, some}
 use Rattle.words.specs.Lists.{all_below, same_list}
 use Rattle.words.specs.Bytes.{byte_at}
 use Rattle.forms.specs.Form.{name_byte}
-use Rattle.xml.specs.Names.{entry_bytes, bytes_at, most_name_bytes, names, length_of, name_in, good_name, apart}
-use Rattle.names.specs.declared.find.Entry.{Entry}
-use Rattle.names.specs.declared.find.Entry.TheVariants.{Missing, At}
+use Rattle.xml.specs.Names.{entry_bytes, bytes_at, most_name_bytes, length_of, name_in, good_name, apart}
 
 -- a byte of an entry, inside its name or after it
 abbrev pub good_byte : ℕ → Bool → Bool
@@ -41,12 +39,3 @@ number_here l k w i = cond (is_name l k w i) (some (name_in l i).number) none
 
 abbrev pub name_here : List ℕ → ℕ → ℕ → ℕ → Option (List ℕ)
 name_here l k n i = cond (is_number l k n i) (some (name_in l i).bytes) none
-
--- the name of the entry that was found, and that the list has this entry
-abbrev pub entry_of : List ℕ → Entry → Option (List ℕ)
-entry_of l Missing = none
-entry_of l (At i) = some (name_in l i).bytes
-
-abbrev pub EntryIn : List ℕ → Entry → Type 0
-EntryIn l Missing = Unit {0}
-EntryIn l (At i) = i < names l

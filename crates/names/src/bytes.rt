@@ -1,7 +1,6 @@
 // The bytes of names: which they may be, and whether two names have the same.
-ghost use Rattle.std.specs.Prelude.{◌≡◌, ◌+◌, ◌≤◌, length};
+ghost use Rattle.std.specs.Prelude.{◌≡◌, length};
 ghost use Rattle.words.specs.Lists.{same_list};
-ghost use Rattle.words.specs.Bytes.{part};
 ghost use Rattle.forms.specs.Form.{name_byte};
 
 use forms::kind::{ByteKind, is_of};
@@ -13,29 +12,22 @@ pub fn name_byte(b: u8) -> bool
     is_of(ByteKind::Name, b)
 }
 
-// The n bytes from a byte on, of one slice and of another, are the same: all of them are looked at.
-fn all_same(a: &[u8], at: usize, b: &[u8], from: usize, n: usize) -> bool
-    requires { (at + n ≤ length a.now) × (from + n ≤ length b.now) }
-    ensures { result ≡ same_list (part a.now at n) (part b.now from n) }
+// Two names of one length are the same. No early exit: the loop is one that the compiler turns into wide compares.
+fn all_same(a: &[u8], b: &[u8]) -> bool
+    requires { length a.now ≡ length b.now }
+    ensures { result ≡ same_list a.now b.now }
 {
     let mut same = true;
-    for i in 0..n {
-        same = same & (a[at + i] == b[from + i]);
+    for i in 0..a.len() {
+        same = same & (a[i] == b[i]);
     }
     same
 }
 
 // The same, with a look at the last byte first: names of one length mostly differ there, as numbered ones do.
-pub fn same_bytes(a: &[u8], at: usize, b: &[u8], from: usize, n: usize) -> bool
-    requires { (at + n ≤ length a.now) × (from + n ≤ length b.now) }
-    ensures { result ≡ same_list (part a.now at n) (part b.now from n) }
+pub fn same_bytes(a: &[u8], b: &[u8]) -> bool
+    requires { length a.now ≡ length b.now }
+    ensures { result ≡ same_list a.now b.now }
 {
-    if n == 0 {
-        return true;
-    }
-    let last = n - 1;
-    if a[at + last] != b[from + last] {
-        return false;
-    }
-    all_same(a, at, b, from, n)
+    a.last() == b.last() && all_same(a, b)
 }

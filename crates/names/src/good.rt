@@ -8,7 +8,7 @@ use crate::layout::{
     BYTES_AT, ENTRY_BYTES, LENGTH_AT, MOST_NAME_BYTES, MOST_NAMES, NUMBER_AT, TARGET_NAMES,
     TYPE_NAMES,
 };
-use fields::field::{u16_at, wide};
+use fields::field::u16_at;
 
 // A byte of an entry: one of the name, or zero after it.
 fn good_byte(b: u8, inside: bool) -> bool
@@ -22,12 +22,8 @@ fn good_bytes(list: &[u8], i: usize) -> bool
     requires { i < names list.now }
     ensures { result ≡ good_bytes list.now i }
 {
-    let n = wide(list[ENTRY_BYTES * i + LENGTH_AT]) as usize;
-    let mut good = true;
-    for j in 0..MOST_NAME_BYTES {
-        good = good & good_byte(list[ENTRY_BYTES * i + BYTES_AT + j], j < n);
-    }
-    good
+    let n = usize::from(list[ENTRY_BYTES * i + LENGTH_AT]);
+    (0..MOST_NAME_BYTES).all(|j| good_byte(list[ENTRY_BYTES * i + BYTES_AT + j], j < n))
 }
 
 // Entry i by itself.
@@ -59,11 +55,14 @@ fn apart(list: &[u8], j: usize, i: usize) -> bool
     if u16_at(list, x + NUMBER_AT) == u16_at(list, y + NUMBER_AT) {
         return false;
     }
-    let n = list[x + LENGTH_AT];
-    if n != list[y + LENGTH_AT] {
+    let n = usize::from(list[x + LENGTH_AT]);
+    if n != usize::from(list[y + LENGTH_AT]) {
         return true;
     }
-    !same_bytes(list, x + BYTES_AT, list, y + BYTES_AT, wide(n) as usize)
+    !same_bytes(
+        &list[x + BYTES_AT..x + BYTES_AT + n],
+        &list[y + BYTES_AT..y + BYTES_AT + n],
+    )
 }
 
 // Entry i is apart from each before it.
@@ -71,31 +70,16 @@ fn new_name(list: &[u8], i: usize) -> bool
     requires { (i < names list.now) × ((j : ℕ) → j ≤ i → length_of list.now j ≤ most_name_bytes) }
     ensures { result ≡ new_name list.now i }
 {
-    let mut good = true;
-    for j in 0..i {
-        good = good & apart(list, j, i);
-    }
-    good
+    (0..i).all(|j| apart(list, j, i))
 }
 
-// The whole list, of any length. An entry is compared with those before it only after each of them by itself was good.
+// The whole list, of any length. Entries are compared only after each of them by itself was good.
 pub fn good_names(list: &[u8]) -> bool
     ensures { result ≡ good_names list.now }
 {
     let n = list.len() / ENTRY_BYTES;
-    if ENTRY_BYTES * n != list.len() {
+    if ENTRY_BYTES * n != list.len() || MOST_NAMES < n {
         return false;
     }
-    if MOST_NAMES < n {
-        return false;
-    }
-    for i in 0..n {
-        if !good_name(list, i) {
-            return false;
-        }
-        if !new_name(list, i) {
-            return false;
-        }
-    }
-    true
+    (0..n).all(|i| good_name(list, i)) && (0..n).all(|i| new_name(list, i))
 }

@@ -4,4 +4,5 @@
 pub mod bytes;
 pub mod find;
 pub mod good;
+pub mod kind;
 pub mod layout;

@@ -1,5 +1,4 @@
 pub mod Joins
-pub mod Lent
 pub mod Body
 pub mod Fronts
 pub mod Image

@@ -8,16 +8,15 @@ ghost use Rattle.xml.specs.Blocks.{numbered_anew, image_of};
 ghost use Rattle.numbering.specs.Numbered.{blocks_anew, together};
 
 use fields::field::put_u16;
-use fields::layout::{BLOCK_BYTES, NUMBER_AT, TOTAL_AT, WORD_BYTES};
-use table_write::places::copy_words;
+use fields::layout::{BLOCK_BYTES, NUMBER_AT, TOTAL_AT};
+use fields::tables::block;
 use table_write::write::put_check;
 
 // ---- one block
 
 // A block becomes block k of so many in all. Its check goes over both numbers, so it is made anew too.
-fn number_block(block: &mut [u8], total: usize, k: usize)
-    requires block_len { length block.old ≡ block_bytes }
-    requires k_bound { (k < 65536) × (total < 65536) }
+fn number_block(block: &mut [u8; BLOCK_BYTES], total: usize, k: usize)
+    requires { (k < 65536) × (total < 65536) }
     ensures { block.new ≡ numbered_anew total k block.old }
 {
     put_u16(block, NUMBER_AT, k as u32);
@@ -25,29 +24,18 @@ fn number_block(block: &mut [u8], total: usize, k: usize)
     put_check(block);
 }
 
-// Block i of one image becomes block j of another.
-fn copy_block(from: &[u8], i: usize, output: &mut [u8], j: usize)
-    requires { (block_bytes * i + block_bytes ≤ length from.now) × (block_bytes * j + block_bytes ≤ length output.old) }
-    ensures { output.new ≡ over output.old (block_bytes * j) block_bytes (block_at from.now i) }
-{
-    let at = BLOCK_BYTES * i;
-    copy_words(
-        output,
-        BLOCK_BYTES * j,
-        &from[at..at + BLOCK_BYTES],
-        BLOCK_BYTES / WORD_BYTES,
-    );
-}
-
-// The same, numbered anew.
+// Block i of one image becomes block j of another, numbered anew.
 fn put_block(from: &[u8], i: usize, output: &mut [u8], j: usize, total: usize)
     requires block_bytes_in_bounds { (block_bytes * i + block_bytes ≤ length from.now) × (block_bytes * j + block_bytes ≤ length output.old) }
     requires j_bound { (j < 65536) × (total < 65536) }
     ensures { output.new ≡ over output.old (block_bytes * j) block_bytes (numbered_anew total j (block_at from.now i)) }
 {
-    copy_block(from, i, output, j);
-    let at = BLOCK_BYTES * j;
-    number_block(&mut output[at..at + BLOCK_BYTES], total, j);
+    let (_, rest) = output.split_at_mut(BLOCK_BYTES * j);
+    let Some(place) = rest.first_chunk_mut() else {
+        unreachable!()
+    };
+    *place = *block(from, i);
+    number_block(place, total, j);
 }
 
 // ---- many

@@ -10,80 +10,62 @@ ghost use Rattle.table_write.specs.Writing.{over, count_in, Noted};
 
 use fields::blocks::BlockSet;
 use fields::field::{put_u32, u32_at};
-use fields::layout::{MARKS_AT, REQUEST_WORDS};
+use fields::layout::{MARKS_AT, REQUEST_BYTES, REQUEST_WORDS};
 use fields::request;
 use fields::sets::RuleSet;
 use fields::tables::{Blocks, record_start};
 
 // ---- bytes
 
-// Copies n words of another slice.
-pub fn copy_words(s: &mut [u8], at: usize, from: &[u8], n: usize)
-    requires { (at + 4 * n ≤ length s.old) × (4 * n ≤ length from.now) }
-    ensures { s.new ≡ over s.old at (4 * n) (take (4 * n) from.now) }
-{
-    for i in 0..n {
-        put_u32(s, at + 4 * i, u32_at(from, 4 * i));
-    }
-}
-
-// Copies n words to a byte that is not behind their own: a word is read before it is written over.
-fn move_words(s: &mut [u8], from: usize, to: usize, n: usize)
-    requires { (to ≤ from) × (from + 4 * n ≤ length s.old) }
-    ensures { s.new ≡ over s.old to (4 * n) (part s.old from (4 * n)) }
-{
-    for i in 0..n {
-        let word = u32_at(s, from + 4 * i);
-        put_u32(s, to + 4 * i, word);
-    }
-}
-
-// The n words at a byte of one slice are those at a byte of another.
-fn same_words(s: &[u8], at: usize, other: &[u8], from: usize, n: usize) -> bool
-    requires { (at + 4 * n ≤ length s.now) × (from + 4 * n ≤ length other.now) }
-    ensures { result ≡ same_list (part s.now at (4 * n)) (part other.now from (4 * n)) }
+// The n words at a byte of a slice are the first of another. No early exit: the compiler compares many bytes at once.
+fn same_words(s: &[u8], at: usize, other: &[u8], n: usize) -> bool
+    requires { (at + 4 * n ≤ length s.now) × (4 * n ≤ length other.now) }
+    ensures { result ≡ same_list (part s.now at (4 * n)) (take (4 * n) other.now) }
 {
     let mut same = true;
     for i in 0..n {
-        same = same & (u32_at(s, at + 4 * i) == u32_at(other, from + 4 * i));
+        same = same & (u32_at(s, at + 4 * i) == u32_at(other, 4 * i));
     }
     same
 }
 
 // ---- a record at a byte
 
+// The request that begins at a byte.
+fn request_at(s: &[u8], at: usize) -> &[u8; REQUEST_BYTES]
+    requires { at + request_bytes ≤ length s.now }
+    ensures { result.now ≡ part s.now at request_bytes }
+{
+    let Ok(request) = s[at..at + REQUEST_BYTES].try_into() else {
+        unreachable!()
+    };
+    request
+}
+
 // Puts a record, a request and its marks, at a byte.
-fn put_record(table: &mut [u8], at: usize, request: &[u8], marks: RuleSet)
-    requires { (at + record_bytes ≤ length table.old) × (length request.now ≡ request_bytes) }
+fn put_record(table: &mut [u8], at: usize, request: &[u8; REQUEST_BYTES], marks: RuleSet)
+    requires { at + record_bytes ≤ length table.old }
     ensures { table.new ≡ over table.old at record_bytes (request.now ++ bytes4 marks.0) }
 {
-    copy_words(table, at, request, REQUEST_WORDS);
+    table[at..at + REQUEST_BYTES].copy_from_slice(request);
     put_u32(table, at + MARKS_AT, marks.0);
 }
 
-// Puts the record that begins at one byte at another that is not behind it, with these marks.
-fn move_record(table: &mut [u8], from: usize, to: usize, marks: RuleSet)
-    requires { (to ≤ from) × (from + record_bytes ≤ length table.old) }
-    ensures { table.new ≡ over table.old to record_bytes (part table.old from request_bytes ++ bytes4 marks.0) }
+// The record at a byte has this request and these marks. Where no record is there are no marks, so marks come first.
+fn stands(table: &[u8], at: usize, request: &[u8; REQUEST_BYTES], marks: RuleSet) -> bool
+    requires { at + record_bytes ≤ length table.now }
+    ensures { result ≡ same_record (record_from table.now at) (record { request = request.now; marks = marks.0 }) }
 {
-    move_words(table, from, to, REQUEST_WORDS);
-    put_u32(table, to + MARKS_AT, marks.0);
-}
-
-// The record at a byte is the request that begins at a byte of a slice, with these marks. Where no record is there are no marks, so marks come first.
-fn stands(table: &[u8], to: usize, request: &[u8], from: usize, marks: RuleSet) -> bool
-    requires { (to + record_bytes ≤ length table.now) × (from + request_bytes ≤ length request.now) }
-    ensures { result ≡ same_record (record_from table.now to) (record { request = part request.entry.now from request_bytes; marks = marks.0 }) }
-{
-    if request::marks(table, to).0 != marks.0 {
+    if request::marks(table, at).0 != marks.0 {
         return false;
     }
-    same_words(table, to, request, from, REQUEST_WORDS)
+    same_words(table, at, request, REQUEST_WORDS)
 }
 
 // ---- a record at its place
 
-// Puts other marks on record i. Its block is added to a set if they are others.
+// Puts other marks on record i. Its block is added to a set if they are others. It is `place` at its own place, but its request is not looked at:
+// a step that clears marks of many records and removes none is as quick as it must be by that.
 pub fn remark(table: &mut [u8], i: usize, marks: RuleSet, changed: BlockSet) -> BlockSet
     requires { HasRoom table.old (i + 1) }
     ensures { (table.new ≡ over table.old (record_start i) record_bytes ((record_here table.old i).request ++ bytes4 marks.0)) × (Noted table.old i (record { request = (record_here table.old i).request; marks = marks.0 }) changed result) }
@@ -96,42 +78,36 @@ pub fn remark(table: &mut [u8], i: usize, marks: RuleSet, changed: BlockSet) -> 
     changed.with(i / Blocks::RECORDS)
 }
 
-// Puts record i, with these marks, at a place before it. Its block is added to a set if another record stood there: where it is in the set already,
-// there is nothing to compare.
-pub fn place(table: &mut [u8], i: usize, j: usize, marks: RuleSet, changed: BlockSet) -> BlockSet
-    requires { (j ≤ i) × (HasRoom table.old (i + 1)) }
-    ensures { (table.new ≡ over table.old (record_start j) record_bytes ((record_here table.old i).request ++ bytes4 marks.0)) × (Noted table.old j (record { request = (record_here table.old i).request; marks = marks.0 }) changed result) }
-{
-    let from = record_start(i);
-    let to = record_start(j);
-    if changed.has(j / Blocks::RECORDS) {
-        move_record(table, from, to, marks);
-        return changed;
-    }
-    if stands(table, to, table, from, marks) {
-        return changed;
-    }
-    move_record(table, from, to, marks);
-    changed.with(j / Blocks::RECORDS)
-}
-
-// The same with a request that stands elsewhere.
+// Puts a request, with these marks, at a place. Its block is added to a set if another record stood there.
 pub fn place_request(
     table: &mut [u8],
     j: usize,
-    q: &[u8],
+    q: &[u8; REQUEST_BYTES],
     marks: RuleSet,
     changed: BlockSet,
 ) -> BlockSet
-    requires { (length q.now ≡ request_bytes) × (HasRoom table.old (j + 1)) }
+    requires { HasRoom table.old (j + 1) }
     ensures { (table.new ≡ over table.old (record_start j) record_bytes (q.now ++ bytes4 marks.0)) × (Noted table.old j (record { request = q.now; marks = marks.0 }) changed result) }
 {
     let to = record_start(j);
-    if stands(table, to, q, 0, marks) {
+    if stands(table, to, q, marks) {
         return changed;
     }
     put_record(table, to, q, marks);
     changed.with(j / Blocks::RECORDS)
+}
+
+// Puts record i, with these marks, at a place before it. Where that place's block is in the set already there is nothing to compare.
+pub fn place(table: &mut [u8], i: usize, j: usize, marks: RuleSet, changed: BlockSet) -> BlockSet
+    requires { (j ≤ i) × (HasRoom table.old (i + 1)) }
+    ensures { (table.new ≡ over table.old (record_start j) record_bytes ((record_here table.old i).request ++ bytes4 marks.0)) × (Noted table.old j (record { request = (record_here table.old i).request; marks = marks.0 }) changed result) }
+{
+    let request = *request_at(table, record_start(i));
+    if changed.has(j / Blocks::RECORDS) {
+        put_record(table, record_start(j), &request, marks);
+        return changed;
+    }
+    place_request(table, j, &request, marks, changed)
 }
 
 // ---- more records, or fewer

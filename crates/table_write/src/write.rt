@@ -21,9 +21,8 @@ use sums::sum::{Sum, sum_words};
 // ---- one block
 
 // A block's first 10 bytes: its kind, its number, the blocks in all, its records.
-fn put_numbers(block: &mut [u8], total: usize, k: usize, count: usize)
-    requires spare_at_in_bounds { spare_at ≤ length block.old }
-    requires k_bound { (k < 65536) × (total < 65536) × (count < 65536) }
+fn put_numbers(block: &mut [u8; BLOCK_BYTES], total: usize, k: usize, count: usize)
+    requires { (k < 65536) × (total < 65536) × (count < 65536) }
     ensures { block.new ≡ over block.old 0 spare_at (numbers_image total k count) }
 {
     put_u32(block, KIND_AT, TABLE_KIND);
@@ -33,13 +32,11 @@ fn put_numbers(block: &mut [u8], total: usize, k: usize, count: usize)
 }
 
 // Zeros n bytes.
-pub fn zero_fill(s: &mut [u8], at: usize, n: usize)
+fn zero_fill(s: &mut [u8], at: usize, n: usize)
     requires { at + n ≤ length s.old }
     ensures { s.new ≡ over s.old at n (zeros n) }
 {
-    for i in 0..n {
-        s[at + i] = 0;
-    }
+    s[at..at + n].fill(0);
 }
 
 // Puts two sums, a and then b, as a stamp or a check has them.
@@ -52,9 +49,8 @@ fn put_sums(s: &mut [u8], at: usize, sum: Sum)
 }
 
 // A block's first 24 bytes.
-fn put_header(block: &mut [u8], stamp: Sum, total: usize, k: usize, count: usize)
-    requires records_at_in_bounds { records_at ≤ length block.old }
-    requires k_bound { (k < 65536) × (total < 65536) × (count < 65536) }
+fn put_header(block: &mut [u8; BLOCK_BYTES], stamp: Sum, total: usize, k: usize, count: usize)
+    requires { (k < 65536) × (total < 65536) × (count < 65536) }
     ensures { block.new ≡ over block.old 0 records_at (header_image (sums_of stamp) total k count) }
 {
     put_numbers(block, total, k, count);
@@ -63,8 +59,7 @@ fn put_header(block: &mut [u8], stamp: Sum, total: usize, k: usize, count: usize
 }
 
 // A block's check, over the words before it.
-pub fn put_check(block: &mut [u8])
-    requires { length block.old ≡ block_bytes }
+pub fn put_check(block: &mut [u8; BLOCK_BYTES])
     ensures { block.new ≡ sealed (take check_at block.old) }
 {
     let sum = sum_words(block, 0, CHECKED_WORDS);
@@ -72,9 +67,8 @@ pub fn put_check(block: &mut [u8])
 }
 
 // Block k of a table, made of the records that stand in it.
-fn seal(block: &mut [u8], stamp: Sum, total: usize, k: usize, count: usize)
-    requires block_len { length block.old ≡ block_bytes }
-    requires k_lt_total { (k < total) × (total ≤ table_blocks) × (count ≤ block_records) }
+fn seal(block: &mut [u8; BLOCK_BYTES], stamp: Sum, total: usize, k: usize, count: usize)
+    requires { (k < total) × (total ≤ table_blocks) × (count ≤ block_records) }
     ensures { block.new ≡ block_image (sums_of stamp) total k (tab (record_at block.old) 0 count) }
 {
     put_header(block, stamp, total, k, count);
@@ -90,7 +84,11 @@ pub fn seal_block(table: &mut [u8], stamp: Sum, total: usize, k: usize, count: u
     ensures { table.new ≡ over table.old (block_bytes * k) block_bytes (block_image (sums_of stamp) total k (tab (record_at (block_at table.old k)) 0 count)) }
 {
     let at = BLOCK_BYTES * k;
-    seal(&mut table[at..at + BLOCK_BYTES], stamp, total, k, count);
+    let (_, rest) = table.split_at_mut(at);
+    let Some(block) = rest.first_chunk_mut() else {
+        unreachable!()
+    };
+    seal(block, stamp, total, k, count);
 }
 
 // ---- a table

@@ -1,5 +1,4 @@
 use native.Mathlib.Omega.{arith}
-use mathlib.Core.Path.{◌∙◌}
 use lib.ListN.{length-set}
 use Rattle.xml.specs.Blocks.{privilege_image}
 use Rattle.drafts.proofs.ExclusionBlock.{member-stored, member-counted}
@@ -8,16 +7,13 @@ use Rattle.drafts.proofs.exclusion.add_member.Goals as goal
 pub put_pair-requires : goal.put_pair-requires
 put_pair-requires c = simp length-set (omega arith)
 
-pub shape_of-x-then-n : goal.shape_of-x-then-n
-shape_of-x-then-n c = c.put_pair.auto.s ∙ simp length-set
-
 pub returns-then-n : goal.returns-then-n
 unfolding privilege_image
 returns-then-n c =
     let a = c.args in
     λ s e.
     member-stored s (record { operation = a.operation; target = a.target }) a.x.now e c.counted.result c.counted.ensures
-    c.wide.result c.wide.ensures.0 (omega arith) c.put_pair.ensures
+    c.from.result c.from.ensures (omega arith) c.put_pair.ensures
 
 pub returns-else-n : goal.returns-else-n
 returns-else-n c =

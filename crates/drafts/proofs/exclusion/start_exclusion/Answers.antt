@@ -1,14 +1,14 @@
 use Prim.Native.Nat.{ℕ}
 use native.Mathlib.Omega.{arith}
-use mathlib.Core.Path.{ap, ◌∙◌}
+use mathlib.Core.Path.{sym, ap, ◌∙◌}
 use mathlib.Core.List.{List}
 use lib.ListN.{set}
-use Rattle.drafts.proofs.Zeroed.{zeroed}
 use Rattle.drafts.proofs.ExclusionBlock.{begun}
 use Rattle.drafts.proofs.exclusion.start_exclusion.Goals as goal
 
 pub returns : goal.returns
 returns c =
-    ap (λ (b : List ℕ). set (set b 56 c.args.kind) 57 c.args.m)
-    (zeroed c.args.x.now c.zero_fill.ensures c.requires)
-    ∙ begun c.args.kind c.args.m (omega arith)
+    let k = c.code.result in
+    let m = c.args.m in
+    rw (← c.code.ensures)
+    (ap (λ (b : List ℕ). set (set b 56 k) 57 m) (c.no_exclusion.ensures ∙ sym (begun 0 0 (omega arith))) ∙ begun k m (omega arith))

@@ -1,17 +1,13 @@
-use native.Mathlib.Omega.{arith}
 use Prim.Native.Nat.{◌*◌}
-use mathlib.Core.Path.{refl, ap, ◌∙◌}
-use lib.Seq.{take_all}
-use Rattle.table_write.specs.Writing.{over}
+use native.Mathlib.Omega.{arith}
+use mathlib.Core.Path.{refl}
+use Rattle.table_write.proofs.Over.{part-back}
 use Rattle.drafts.proofs.kept.keep_rule.Goals as goal
-
-pub copy_words-requires : goal.copy_words-requires
-copy_words-requires c = omega arith
 
 pub returns-then-k : goal.returns-then-k
 returns-then-k c =
     let a = c.args in
-    (λ h. c.copy_words.ensures ∙ ap (over a.image.now (512 * a.k) 512) (take_all 512 a.d.now (omega arith)), λ h. absurd (omega arith))
+    (λ h. part-back a.image.now _ _ (512 * a.k) _ 512 (omega arith) c.copy_from_slice.ensures.after, λ h. absurd (omega arith))
 
 pub returns-else-k : goal.returns-else-k
 returns-else-k c = (λ h. absurd (omega arith), λ h. refl)

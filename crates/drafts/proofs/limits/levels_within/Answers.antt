@@ -1,19 +1,11 @@
-use mathlib.Core.Path.{◌≡◌}
-use native.Mathlib.Numerals.{add-one}
-use native.Mathlib.Omega.{arith}
-use Rattle.words.specs.Lists.{all_below}
-use Rattle.format.specs.Rule.{rule_at}
-use borrow.Author.Rules.{rules}
+use Rattle.std.proofs.Common.{rules}
+use Rattle.word_laws.proofs.Chains.{all_below-from_all}
+use Rattle.format.specs.Rule.{level_at, rule_at}
+use Rattle.policy_check.specs.Parts.{good_level_of}
 use Rattle.drafts.proofs.limits.levels_within.Goals as goal
-
-pub loop-i-init : goal.loop-i-init
-unfolding all_below
-loop-i-init c = search rules
-
-pub loop-i-preserved : goal.loop-i-preserved
-unfolding all_below
-loop-i-preserved c = (omega arith, rw add-one (cc))
 
 pub returns : goal.returns
 unfolding rule_at
-returns c = let e : c.loop-i.i ≡ 4 = omega arith in rw (e, c.wide-depth.ensures.0) at c.loop-i.invariant.1
+returns c =
+    let d = c.args.d.now in
+    rw (← c.from-depth.ensures) (all_below-from_all (good_level_of c.from-depth.result (level_at d)) 4 _ _ _ c.all.ensures.ran (λ x b q k. search rules))

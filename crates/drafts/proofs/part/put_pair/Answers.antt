@@ -10,6 +10,6 @@ use Rattle.drafts.proofs.part.put_pair.Goals as goal
 pub returns : goal.returns
 returns c =
     let a = c.args in
-    c.put_u32.ensures
+    rw (c.from.ensures, c.from-2.ensures) at c.put_u32.ensures
     ∙ sets-eq (bytes4 (a.x + 65536 * a.y)) a.s.now a.at (omega arith)
     ∙ ap (over a.s.now a.at 4) (pair-bytes a.x a.y (omega arith) (omega arith))

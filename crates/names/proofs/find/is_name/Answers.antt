@@ -1,26 +1,30 @@
 use native.Mathlib.Omega.{arith}
 use Prim.Native.Nat.{◌+◌, ◌*◌}
-use mathlib.Core.Path.{◌≡◌, sym, ◌∙◌}
+use mathlib.Core.Path.{◌≡◌, sym, ap, ◌∙◌}
+use lib.ListN.{length}
+use borrow.Author.Tests.{ne_eqb}
+use Rattle.words.specs.Lists.{same_list}
 use Rattle.words.specs.Bytes.{u16_at}
+use Rattle.word_laws.proofs.Parts.{part-to}
+use Rattle.names.specs.Code.{name_code}
 use Rattle.names.proofs.GoodEntries.{good-entry}
 use Rattle.names.proofs.Keys.{other_key, same_key}
 use Rattle.names.proofs.find.is_name.Goals.{Start}
 use Rattle.names.proofs.find.is_name.Goals as goal
 
-pub returns-then-u16_at-wide : goal.returns-then-u16_at-wide
-returns-then-u16_at-wide c =
-    let s = (goal.at.returns-then-u16_at-wide c).Start in
-    let a = s.args in
-    let good = good-entry a.list.now a.i s.requires.i_bound.1 in
-    let by_key = other_key a.list.now a.i (omega arith) good a.kind (omega arith) a.text.now a.at a.n (omega arith) in
-    sym (by_key (λ e. c.if-u16_at-wide.true (c.u16_at.ensures.0 ∙ e ∙ rw c.wide.ensures.0)))
+pub returns-then-u16_at-from : goal.returns-then-u16_at-from
+returns-then-u16_at-from c =
+    let a = c.args in
+    let w = a.name.now in
+    let good = good-entry a.list.now a.i c.requires.i_bound.1 in
+    let e : u16_at a.list.now (64 * a.i) ≡ name_code a.kind + 256 * length w = omega arith in
+    c.same_bytes.ensures
+    ∙ ap (λ s. same_list s w) (part-to a.list.now (64 * a.i + 4) (length w))
+    ∙ sym (same_key a.list.now a.i (omega arith) good (name_code a.kind) (omega arith) w e)
 
-pub returns : goal.returns
-returns c =
-    let s = (goal.at.returns c).Start in
-    let a = s.args in
-    let good = good-entry a.list.now a.i s.requires.i_bound.1 in
-    let by_key = same_key a.list.now a.i (omega arith) good a.kind (omega arith) a.text.now a.at a.n (omega arith) in
-    let e : u16_at a.list.now (64 * a.i) ≡ a.kind + 256 * a.n =
-    sym c.u16_at.ensures.0 ∙ c.if-u16_at-wide.false ∙ rw c.wide.ensures.0 in
-    c.same_bytes.ensures ∙ sym (by_key e)
+pub returns-else-u16_at-from : goal.returns-else-u16_at-from
+returns-else-u16_at-from c =
+    let a = c.args in
+    let good = good-entry a.list.now a.i c.requires.i_bound.1 in
+    ne_eqb _ _ c.if-u16_at-from.false
+    ∙ sym (other_key a.list.now a.i (omega arith) good (name_code a.kind) (omega arith) a.name.now (λ e. c.if-u16_at-from.false (omega arith)))

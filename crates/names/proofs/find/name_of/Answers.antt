@@ -1,22 +1,24 @@
+use Prim.Native.Nat.{◌<◌}
 use native.Mathlib.Omega.{arith}
-use mathlib.Core.Path.{sym, ◌∙◌}
-use Rattle.word_laws.proofs.First.{first-start, first-hit, first_more, first_done}
-use Rattle.xml.specs.Names.{name_of}
+use Prim.Native.Nat.{◌+◌, ◌*◌}
+use mathlib.Core.Path.{ap, ◌∙◌}
+use mathlib.Core.Option.{some}
+use Rattle.word_laws.proofs.Parts.{part-to}
+use Rattle.xml.specs.Names.{names, name_in}
+use Rattle.names.proofs.GoodEntries.{entry_at}
 use Rattle.names.proofs.find.name_of.Goals as goal
 
-pub loop-i-init : goal.loop-i-init
-unfolding name_of
-loop-i-init c = (omega arith, first-start _ _)
+pub slice_bounds-result-end : goal.slice_bounds-result-end
+slice_bounds-result-end c =
+    let h : c.in_ok-i.i < names c.args.list.now = c.in_ok-i.ensures.1 in
+    let good = entry_at c.args.list.now c.requires c.in_ok-i.i h in
+    omega (arith, good.length_to)
 
-pub returns-then-is_number : goal.returns-then-is_number
-returns-then-is_number c =
-    let l = c.loop-i in
-    (first-hit _ l.i _ l.invariant.1 (omega arith) (rw (sym c.is_number.ensures ∙ c.if-is_number.true)), omega arith)
-
-pub loop-i-preserved : goal.loop-i-preserved
-loop-i-preserved c =
-    let l = c.loop-i in
-    (omega arith, first_more _ l.i _ l.invariant.1 (omega arith) (rw (sym c.is_number.ensures ∙ c.if-is_number.false)))
+pub returns-in_err-i : goal.returns-in_err-i
+returns-in_err-i c = rw (c.from_residual.ensures) c.in_err-i.ensures.0
 
 pub returns : goal.returns
-returns c = let l = c.loop-i in (first_done _ l.i _ l.invariant.1 (omega arith), tt)
+unfolding name_in
+returns c =
+    let i = c.in_ok-i.i in
+    ap some (part-to c.args.list.now (64 * i + 4) c.from-n.result ∙ rw (c.from-n.ensures)) ∙ c.in_ok-i.ensures.0

@@ -1,47 +1,36 @@
-use native.Mathlib.Numerals.{add-one}
 use native.Mathlib.Omega.{arith}
-use mathlib.Core.Path.{◌≡◌, refl, sym, ◌∙◌}
+use mathlib.Core.Path.{◌≡◌, sym, ◌∙◌}
+use Rattle.std.proofs.Common.{rules}
+use Rattle.std.proofs.lemmas.Iterator.{serves_from_Range}
 use Rattle.words.specs.Lists.{all_below}
-use Rattle.word_laws.proofs.Tests.{both}
-use Rattle.xml.specs.Names.{names}
-use Rattle.names.proofs.GoodEntries.{lengths-to}
-use Rattle.names.proofs.GoodLists.{cut_short, too_many, bad-entry, old-entry, all-good}
+use Rattle.word_laws.proofs.Chains.{all_below-from_all}
+use Rattle.xml.specs.Names.{names, good_name}
+use Rattle.names.specs.Parts.{new_name}
+use Rattle.names.proofs.GoodLists.{bad_size, each-good, lengths-to}
+use Rattle.names.proofs.good.good_names.Goals.{After-all}
 use Rattle.names.proofs.good.good_names.Goals as goal
 
+-- the first round looks at each entry by itself
+each : (c : After-all) → c.all.result ≡ all_below (names c.args.list.now) (good_name c.args.list.now)
+each c = all_below-from_all (good_name c.args.list.now) (names c.args.list.now) _ _ _ c.all.ensures.ran (λ x b q k. search rules)
+
 pub returns-then-n-list : goal.returns-then-n-list
-returns-then-n-list c = sym (cut_short _ c.if-n-list.true)
+returns-then-n-list c = let h = c.then-n-list.either in sym (bad_size _ (λ e. omega arith))
 
-pub returns-then-n-gt-MOST_NAMES : goal.returns-then-n-gt-MOST_NAMES
-returns-then-n-gt-MOST_NAMES c = sym (too_many _ (omega arith))
+pub all-requires-then-all-clause-callable : goal.all-requires-then-all-clause-callable
+all-requires-then-all-clause-callable c =
+    let e = sym (each (goal.at.all-requires-then-all-clause-callable c).After-all) ∙ c.if-all.true in
+    serves_from_Range (λ x q k. search rules) (λ x lo hi. let few = lengths-to c.args.list.now e x hi in search rules)
 
-pub loop-i-init : goal.loop-i-init
-unfolding all_below
-loop-i-init c = (refl, omega arith)
+pub returns-then-all : goal.returns-then-all
+returns-then-all c =
+    let l = c.args.list.now in
+    let e = sym (each (goal.at.returns-then-all c).After-all) ∙ c.if-all.true in
+    all_below-from_all (new_name l) (names l) _ _ _ c.all-then-all.ensures.ran (λ x b q k. search rules)
+    ∙ sym (each-good l (omega arith) (omega arith) ∙ rw e)
 
-pub returns-then-not-good_name : goal.returns-then-not-good_name
-returns-then-not-good_name c =
-    sym (bad-entry _ c.loop-i.i (omega arith) (sym c.good_name.ensures ∙ c.if-not-good_name.true))
-
-pub new_name-requires : goal.new_name-requires
-new_name-requires c =
-    let l = c.loop-i in
-    (omega arith, lengths-to _ l.i l.invariant.0 (sym c.good_name.ensures ∙ c.if-not-good_name.false))
-
-pub returns-then-not-new_name : goal.returns-then-not-new_name
-returns-then-not-new_name c =
-    let i = c.loop-i.i in
-    sym (old-entry _ i (omega arith) (sym c.new_name.ensures ∙ c.if-not-new_name.true))
-
-pub loop-i-preserved : goal.loop-i-preserved
-unfolding all_below
-loop-i-preserved c =
-    let l = c.loop-i in
-    let good = sym c.good_name.ensures ∙ c.if-not-good_name.false in
-    let new = sym c.new_name.ensures ∙ c.if-not-new_name.false in
-    (rw (add-one l.i) (both l.invariant.0 (both good new)), omega arith)
-
-pub returns : goal.returns
-returns c =
-    let s = c.args.list.now in
-    let e : c.loop-i.i ≡ names s = omega arith in
-    sym (all-good s c.if-n-list.false (omega arith) (rw e at c.loop-i.invariant.0))
+pub returns-else-all : goal.returns-else-all
+returns-else-all c =
+    let l = c.args.list.now in
+    let e = sym (each (goal.at.returns-else-all c).After-all) ∙ c.if-all.false in
+    c.if-all.false ∙ sym (each-good l (omega arith) (omega arith) ∙ rw e)

@@ -5,12 +5,6 @@ use Rattle.format.specs.Block.{blocks}
 use Rattle.numbering.proofs.Image.{length_both, length-image, image-written}
 use Rattle.numbering.proofs.anew.write_image.Goals as goal
 
-pub put_blocks-requires : goal.put_blocks-requires
-put_blocks-requires c = omega arith
-
-pub put_blocks-requires-2 : goal.put_blocks-requires-2
-put_blocks-requires-2 c = omega arith
-
 pub returns : goal.returns
 returns c =
     let a = c.args in

@@ -15,14 +15,6 @@ use Rattle.table_write.proofs.Placed.{same-marks, filled-before, filled-now}
 use Rattle.table_write.proofs.places.remark.Goals.{After-marks}
 use Rattle.table_write.proofs.places.remark.Goals as goal
 
-pub record_start-at-requires : goal.record_start-at-requires
-record_start-at-requires c = let h = c.requires in omega (arith, h.most, h.few)
-
-pub marks-requires : goal.marks-requires
-marks-requires c =
-    let h = c.requires in
-    omega (arith, c.record_start-at.ensures, h.whole, h.few)
-
 -- the marks there are these, or not
 told : (m : After-marks) → let a = m.args in
     let at = m.record_start-at.result in
@@ -38,11 +30,6 @@ returns-then-marks c =
     let s = a.table.now in
     filled-before s a.i _ c.record_start-at.ensures _ _ (ap {B = List ℕ} (λ (x : ℕ). part s x 28) c.record_start-at.ensures) a.marks.0 (told (goal.at.returns-then-marks c).After-marks) a.changed
     (slice-bytes s c.slice_known-1.given) (omega (arith, h.whole, h.few)) (eq-eqb _ _ c.if-marks.true)
-
-pub with-requires : goal.with-requires
-with-requires c =
-    let h = c.requires in
-    omega (arith, h.most, h.few)
 
 pub returns : goal.returns
 returns c =

@@ -7,5 +7,5 @@ use Rattle.table_write.proofs.write.seal.Goals as goal
 pub returns : goal.returns
 returns c =
     let a = c.args in
-    block_made a.block.now (slice-bytes a.block.now c.slice_known-1.given) (omega arith) (sums_of a.stamp) a.total a.k a.count (omega arith)
+    block_made a.block.now (slice-bytes a.block.now (λ i. record { fits = c.fits-block i })) (omega arith) (sums_of a.stamp) a.total a.k a.count (omega arith)
     c.put_header.ensures c.zero_fill.ensures c.put_check.ensures

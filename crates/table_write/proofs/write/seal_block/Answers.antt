@@ -1,8 +1,7 @@
-use Prim.Native.Nat.{ℕ, ◌+◌, ◌-◌, ◌*◌}
-use mathlib.Core.Path.{◌≡◌, ap, ◌∙◌}
-use native.Mathlib.Omega.{arith}
+use Prim.Native.Nat.{ℕ, ◌*◌}
+use mathlib.Core.Path.{refl, ap, ◌∙◌}
+use lib.ListN.{take}
 use Rattle.words.specs.Lists.{tab}
-use Rattle.words.specs.Bytes.{part}
 use Rattle.sums.specs.Code.{sums_of}
 use Rattle.format.specs.Table.{record_at, block_image}
 use Rattle.table_write.proofs.Over.{part-back}
@@ -13,6 +12,8 @@ returns c =
     let a = c.args in
     let s = a.table.now in
     let at : ℕ = 512 * a.k in
-    let e : at + 512 - at ≡ 512 = omega arith in
-    part-back s _ _ at (at + 512 - at) 512 e
-    (c.seal.ensures ∙ ap (λ m. block_image (sums_of a.stamp) a.total a.k (tab (record_at (part s at m)) 0 a.count)) e)
+    let front = c.split_at_mut-rest.ensures.front in
+    let back = c.split_at_mut-rest.ensures.back in
+    rw (front, back)
+    (part-back s _ _ at 512 512 refl
+    (c.seal.ensures ∙ ap (λ b. block_image (sums_of a.stamp) a.total a.k (tab (record_at b) 0 a.count)) (c.in-Some.ensures.cases.same ∙ ap (take 512) back)))

@@ -12,38 +12,17 @@ use Rattle.table_write.proofs.write.seal_blocks.Goals as goal
 pub loop-k-init : goal.loop-k-init
 loop-k-init c = let a = c.args in (omega arith, start (sums_of a.stamp) a.table.now a.n, size-start a.changed)
 
-pub has-requires : goal.has-requires
-has-requires c = omega arith
-
-pub overflow_step-k : goal.overflow_step-k
-overflow_step-k c = omega arith
-
-pub loop-k-smaller-then-not-has : goal.loop-k-smaller-then-not-has
-loop-k-smaller-then-not-has c = omega arith
-
 pub loop-k-preserved-then-not-has : goal.loop-k-preserved-then-not-has
 loop-k-preserved-then-not-has c =
     let l = c.loop-k in
     let off = sym c.has.ensures ∙ c.if-not-has.true in
     (omega arith, skip l.invariant.1 (omega arith) c.requires.image_but off, size-skip c.args.changed l.k l.invariant.2 off)
 
-pub records_in-requires : goal.records_in-requires
-records_in-requires c = omega arith
-
-pub seal_block-requires : goal.seal_block-requires
-seal_block-requires c = omega arith
-
 pub overflow_add-written : goal.overflow_add-written
 overflow_add-written c =
     let l = c.loop-k in
     let most = size-most c.args.changed l.k l.invariant.2 in
     omega arith
-
-pub overflow_step-k-in-loop-k : goal.overflow_step-k-in-loop-k
-overflow_step-k-in-loop-k c = omega arith
-
-pub loop-k-smaller : goal.loop-k-smaller
-loop-k-smaller c = omega arith
 
 pub loop-k-preserved : goal.loop-k-preserved
 loop-k-preserved c =
