@@ -3,7 +3,7 @@
 ghost use Rattle.std.specs.Prelude.{◌≡◌};
 ghost use Rattle.judge.specs.Close.{close as close_of};
 ghost use Rattle.judge.specs.Written.{closed_blocks};
-ghost use Rattle.answers.specs.Code.{accepted_of, answer_of, outcome, written_of};
+ghost use Rattle.answers.specs.Code.{accepted_of, counted_of, outcome, written_of};
 
 use answers::reply::Counted;
 use format::answer::Refusal;
@@ -18,7 +18,7 @@ pub fn close_counted(
     table: &mut [u8],
     context: &[u8],
 ) -> Result<Counted<u32>, Refusal>
-    ensures { (outcome (accepted_of (answer_of result)) table.new ≡ close_of policy.now table.old context.now) × (written_of result ≡ closed_blocks policy.now table.old context.now) }
+    ensures { (outcome (accepted_of (counted_of result)) table.new ≡ close_of policy.now table.old context.now) × (written_of result ≡ closed_blocks policy.now table.old context.now) }
 {
     let checked = Policy::check(policy)?;
     table_fault(&checked, table)?;

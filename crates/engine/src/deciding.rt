@@ -3,7 +3,7 @@ ghost use Rattle.std.specs.Prelude.{◌≡◌};
 ghost use Rattle.judge.specs.Decide.{decide as decide_of};
 ghost use Rattle.judge.specs.Preview.{preview as preview_of};
 ghost use Rattle.judge.specs.Written.{decided_blocks};
-ghost use Rattle.answers.specs.Code.{answer_of, granted_of, outcome, written_of};
+ghost use Rattle.answers.specs.Code.{counted_of, granted_of, outcome, written_of};
 
 use crate::examining::examine;
 use answers::reply::Counted;
@@ -17,14 +17,10 @@ pub fn decide_counted(
     table: &mut [u8],
     request: &[u8],
 ) -> Result<Counted<Grant>, Refusal>
-    ensures { (outcome (granted_of (answer_of result)) table.new ≡ decide_of policy.now table.old request.now) × (written_of result ≡ decided_blocks policy.now table.old request.now) }
+    ensures { (outcome (granted_of (counted_of result)) table.new ≡ decide_of policy.now table.old request.now) × (written_of result ≡ decided_blocks policy.now table.old request.now) }
 {
     let pass = examine(policy, table, request)?;
-    let changed = update(pass.stamp, pass.ending, pass.gives, pass.request, table, pass.held)?;
-    Ok(Counted {
-        answer: changed.grant,
-        written: changed.written,
-    })
+    update(pass.stamp, pass.ending, pass.gives, pass.request, table, pass.held)
 }
 
 // Decides one request. A grant brings the lent table up to date, a refusal leaves every byte.

@@ -2,7 +2,7 @@
 -- not enough. A level of a context is one number here, its type the high half, so that the values of a type follow one another; and what a rule asks
 -- is that the number lie from a first one to a last.
 -- Assumes nothing.
-use Rattle.std.specs.Prelude.{◌≡◌, ℕ, ◌+◌, ◌-◌, ◌*◌, ◌/◌, ◌%◌, ◌<◌, Bool, cond, ◌&&◌, List, ◌==◌, nat_le, nat_lt, slice_index, slice_index_or}
+use Rattle.std.specs.Prelude.{◌≡◌, ℕ, ◌+◌, ◌-◌, ◌*◌, ◌/◌, ◌%◌, ◌<◌, Bool, cond, ◌&&◌, List, [], ◌==◌, nat_le, nat_lt, slice_index, slice_index_or}
 use Rattle.words.specs.Lists.{tab}
 use Rattle.format.specs.Layout.{most_levels}
 use Rattle.format.specs.Rule.{Rule, Level, is_range, low, high}
@@ -33,9 +33,9 @@ level_span r l = cond (nat_lt l r.depth) (mark_span (r.level l)) 4294967295
 unfoldable pub bound_of : Rule → Bound
 bound_of r = record { first = tab (level_first r) 0 most_levels; span = tab (level_span r) 0 most_levels }
 
--- what stands for the rules that a policy has not
-unfoldable pub no_bound : Bound
-no_bound = record { first = tab (λ l. 0) 0 most_levels; span = tab (λ l. 0) 0 most_levels }
+-- what a read past the end of an array gives
+abbrev pub no_bound : Bound
+no_bound = record { first = []; span = [] }
 
 -- the bounds are those of a policy's rules, as its image has them
 pub record Bounds (p : Policy) (rules : ℕ) (bounds : List Bound) : Type 0 where

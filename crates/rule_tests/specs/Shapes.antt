@@ -36,7 +36,7 @@ shape_of r = record { want = levels_of (level_want r); mask = levels_of (level_m
 unfoldable pub plain : Rule → Bool
 plain r = all_below most_levels (λ l. not (is_range (r.level l)))
 
--- what stands for the rules that a policy has not
+-- what a read past the end of an array gives
 abbrev pub no_shape : Shape
 no_shape = record { want = levels_of (λ l. 0); mask = levels_of (λ l. 0) }
 
