@@ -1,7 +1,5 @@
-use Prim.Native.Nat.{ℕ, ◌+◌}
 use native.Mathlib.Omega.{arith}
 use mathlib.Core.Path.{◌≡◌, sym, ap, ◌∙◌}
-use lib.ListN.{length}
 use borrow.Author.Tests.{eqb-true, eqb-false}
 use Rattle.format.specs.Records.{record_from, record_here}
 use Rattle.clearing.specs.Cleared.{cleared_by}
