@@ -2,19 +2,22 @@
 -- Assumes nothing.
 use Prim.Native.Nat.{ℕ, zero, suc, ◌≤◌, ◌<◌}
 use native.Mathlib.Omega.{arith}
-use mathlib.Core.Path.{◌≡◌, refl, sym, ◌∙◌}
-use mathlib.Core.Bool.{Bool, true, false, not, true≢false}
+use mathlib.Core.Path.{◌≡◌, refl}
+use mathlib.Core.Bool.{true, false, not}
 use mathlib.Core.List.{List}
 use borrow.Author.Tests.{not-true, ne_eqb, ltb-true}
 use lib.ListN.{length}
+use Rattle.std.specs.Prelude.{Result, Ok, Err}
 use Rattle.words.specs.Lists.{all_below}
 use Rattle.word_laws.proofs.Tests.{all_below-at}
 use Rattle.forms.specs.Form.{space, hopeless}
 use Rattle.xml.specs.Grammar.{◌▸◌}
 use Rattle.reader.specs.Table.{states, inner, ahead, rest, next, may_stand}
-use Rattle.reader.specs.Scan.{run_end, Goes, Scans}
-use Rattle.reader.specs.Begin.{Begins}
-use Rattle.reader.specs.Read.{Reads}
+use Rattle.reader.specs.Scan.{run_end, Goes, Stops, Found, Scans}
+use Rattle.reader.specs.Begin.{Stands}
+use Rattle.reader.specs.Read.{Passes}
+use Rattle.reader.specs.declared.misfit.Misfit.{Misfit}
+use Rattle.reader.specs.declared.element.Begun.{Begun}
 use Rattle.reader.specs.declared.reading.Tag.{Tag}
 use Rattle.reader.proofs.Computed.{computed}
 use Rattle.reader.proofs.Levels.{other_byte}
@@ -54,23 +57,24 @@ module _ (s : ℕ) (l : s < inside) {t : List ℕ} {a : ℕ} (fit : a ≤ length
   unfolding ahead
   goes-space = rw (ne_eqb s 7 (λ e. absurd (omega arith))) (goes-many space (inner s) (inner-apart s l) (inner-hope s l) fit)
 
-  module _ {r : Tag} {c b : ℕ} {x : Bool} (p : Begins s t (run_end space t a) x c b) where
-    -- no tag begins there
-    pub none_read : x ≡ false → r.took ≡ false → r.at ≡ b → Reads s t a r
-    none_read e d f =
-        record {
-          yes = λ z. absurd (true≢false (sym z ∙ d));
-          past = λ z. absurd (true≢false (sym z ∙ d));
-          state = λ z. absurd (true≢false (sym z ∙ d));
-          no = λ z. rw f (goes-stops (ahead s) (inner s) goes-space (p.no e));
-        }
+  -- no tag begins there
+  pub none_read : (b : ℕ) → Stops (inner s) t (run_end space t a) b → Stops (ahead s) t a b
+  none_read b p = goes-stops (ahead s) (inner s) goes-space p
 
-    -- one begins, and the rest of it follows or not
-    pub tag_read : x ≡ true → r.state ≡ next s c → Scans (rest c) t b r.took r.at → Reads s t a r
+  -- one begins, and the rest of it follows or not
+  module _ (b : Begun) (p : Stands s t (run_end space t a) b) where
+    abbrev n : ℕ
+    n = next s b.element
+
+    found : {r : Result ℕ Misfit} → Scans (rest b.element) t b.at r → Found (ahead s) t a r (ahead n)
     unfolding may_stand
-    tag_read e n q =
-        let known : next s c < states = ltb-true (next s c) states (p.stands e) in
-        let found =
-        goes-found (ahead s) (rest c ▸ ahead (next s c)) (ahead (next s c))
-        (goes_on (ahead s) (inner s) (rest c ▸ ahead (next s c)) goes-space (p.yes e)) (q (ahead (next s c)) (ahead-hope (next s c) known)) in
-        record { yes = λ z. rw n (found.yes z); past = λ z. found.past z; state = λ z. rw n known; no = λ z. found.no z }
+    found q =
+        goes-found (ahead s) (rest b.element ▸ ahead n) (ahead n) (goes_on (ahead s) (inner s) (rest b.element ▸ ahead n) goes-space p.goes)
+        (q (ahead n) (ahead-hope n (ltb-true n states p.stands)))
+
+    pub tag_stopped : {m : Misfit} → Scans (rest b.element) t b.at (Err m) → Stops (ahead s) t a m.0
+    tag_stopped q = (found q).stopped
+
+    pub tag_read : (r : Tag) → r.state ≡ n → Scans (rest b.element) t b.at (Ok r.at) → Passes s t a r
+    unfolding may_stand
+    tag_read r e q = let f = (found q).took in record { goes = rw e f.0; past = f.1; state = rw e (ltb-true n states p.stands) }

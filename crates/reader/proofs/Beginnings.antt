@@ -2,14 +2,15 @@
 -- Assumes nothing.
 use Prim.Native.Nat.{ℕ, zero, suc, ◌+◌, ◌≤◌, ◌<◌}
 use native.Mathlib.Omega.{arith}
-use native.Mathlib.Nat.{le_trans}
 use native.Mathlib.Numerals.{add-one}
 use mathlib.Core.Path.{◌≡◌, refl, sym, subst, ◌∙◌}
-use mathlib.Core.Bool.{Bool, true, false, cond, not, ◌&&◌, false≢true, true≢false}
+use mathlib.Core.Bool.{Bool, true, false, cond, not, ◌&&◌, false≢true}
 use mathlib.Core.List.{List, [], ◌∷◌}
 use borrow.Author.Tests.{eqb-true, eqb-false, ne_eqb, eq-eqb, ltb-true, ltb-false, not-true}
 use lib.Dec.{eqb, ltb}
 use lib.ListN.{length, take, drop, get_or, length-drop, length-take}
+use Rattle.std.specs.Prelude.{max}
+use Rattle.std.proofs.Math.Nat.{max-eq_left}
 use Rattle.words.specs.Lists.{all_below, any_below, same_list}
 use Rattle.word_laws.proofs.Tests.{both_first, both-second, all_below-at}
 use Rattle.word_laws.proofs.Same.{same-eq}
@@ -20,7 +21,7 @@ use Rattle.forms.proofs.Runs.{common-fits, common-fits-text, common-same}
 use Rattle.reader.specs.Words.{word}
 use Rattle.reader.specs.Table.{elements, inner, table, next, may_stand}
 use Rattle.reader.specs.Scan.{Goes, Stops}
-use Rattle.reader.specs.Begin.{share, larger, longest, Begins}
+use Rattle.reader.specs.Begin.{share, longest, Stands}
 use Rattle.reader.proofs.Letters.{word-starts}
 use Rattle.reader.proofs.Counts.{common-more}
 use Rattle.reader.proofs.Scans.{goes-stops}
@@ -29,23 +30,6 @@ use Rattle.reader.proofs.Firsts.{none-by, no-first}
 use Rattle.reader.proofs.Rule.{inside, firsts, is_this, has_next, goes_on, right, right-hope, going_on}
 
 -- ---- the longest beginning
-
--- the larger of two is as large as each
-larger-first : (m n : ℕ) → m ≤ larger m n
-unfolding larger
-larger-first m n = go (ltb m n) refl
-  where
-    go : (x : Bool) → ltb m n ≡ x → m ≤ cond x n m
-    go true e = let l = ltb-true m n e in omega arith
-    go false e = omega arith
-
-larger-second : (m n : ℕ) → n ≤ larger m n
-unfolding larger
-larger-second m n = go (ltb m n) refl
-  where
-    go : (x : Bool) → ltb m n ≡ x → n ≤ cond x n m
-    go true e = omega arith
-    go false e = ltb-false m n e
 
 -- some tag that may stand in each state
 unfoldable some-tag : ℕ → ℕ
@@ -62,9 +46,9 @@ module _ (s : ℕ) (u : List ℕ) where
   most zero d l = absurd (omega arith)
   most (suc n) d l = go (ltb d n) refl (λ h. most n d h)
     where
-      go : (x : Bool) → ltb d n ≡ x → (d < n → share s u d ≤ longest s u n) → share s u d ≤ larger (longest s u n) (share s u n)
-      go true e h = le_trans (h (ltb-true d n e)) (larger-first (longest s u n) (share s u n))
-      go false e h = let k = ltb-false d n e in let same : d ≡ n = omega arith in rw same (larger-second (longest s u n) (share s u n))
+      go : (x : Bool) → ltb d n ≡ x → (d < n → share s u d ≤ longest s u n) → share s u d ≤ max (longest s u n) (share s u n)
+      go true e h = omega (arith, h (ltb-true d n e))
+      go false e h = let k = ltb-false d n e in let same : d ≡ n = omega arith in rw same (omega arith)
 
   -- nor has the text
   pub share-fits : (d : ℕ) → share s u d ≤ length u
@@ -76,13 +60,9 @@ module _ (s : ℕ) (u : List ℕ) where
       go false = omega arith
 
   pub longest-fits : (n : ℕ) → longest s u n ≤ length u
-  unfolding longest larger
+  unfolding longest
   longest-fits zero = omega arith
-  longest-fits (suc n) = go (ltb (longest s u n) (share s u n)) (longest-fits n)
-    where
-      go : (x : Bool) → longest s u n ≤ length u → cond x (share s u n) (longest s u n) ≤ length u
-      go true l = share-fits n
-      go false l = l
+  longest-fits (suc n) = omega (arith, longest-fits n, share-fits n)
 
   -- a tag that may stand has that much
   pub record Leader (m : ℕ) : Type 0 where
@@ -104,7 +84,7 @@ module _ (s : ℕ) (u : List ℕ) where
   share-common d e = rw e
 
   leader : s < inside → (n : ℕ) → n ≤ elements → Leader (longest s u n)
-  unfolding longest larger
+  unfolding longest
   leader l zero h =
       let e = all_below-at inside s (λ s. may_stand s (some-tag s) && ltb (some-tag s) elements) some-stands l in
       record {
@@ -115,13 +95,13 @@ module _ (s : ℕ) (u : List ℕ) where
       }
   leader l (suc n) h = go (ltb (longest s u n) (share s u n)) refl (leader l n (omega arith))
     where
-      go : (x : Bool) → ltb (longest s u n) (share s u n) ≡ x → Leader (longest s u n) → Leader (cond x (share s u n) (longest s u n))
+      go : (x : Bool) → ltb (longest s u n) (share s u n) ≡ x → Leader (longest s u n) → Leader (max (longest s u n) (share s u n))
       go true e r =
           let k = ltb-true (longest s u n) (share s u n) e in
           let may = share-stands n (omega arith) in
           let same = share-common n may in
           record { tag = n; known = omega arith; stands = may; has = omega arith }
-      go false e r = r
+      go false e r = let k = ltb-false (longest s u n) (share s u n) e in rw (max-eq_left k) r
 
 -- ---- a word of which a part is there
 
@@ -162,7 +142,7 @@ module _ (s : ℕ) (u : List ℕ) (c n m : ℕ) (e : n ≡ share s u c) where
   unfolding all_below
   none_more h d = rw (add-one c, h, ← e, ne_eqb n (length (word c)) d)
 
-  pub longest-more : m ≡ longest s u c → larger m n ≡ longest s u (c + 1)
+  pub longest-more : m ≡ longest s u c → max m n ≡ longest s u (c + 1)
   unfolding longest
   longest-more h = rw (add-one c, h, e)
 
@@ -170,18 +150,12 @@ module _ (s : ℕ) (u : List ℕ) (c n m : ℕ) (e : n ≡ share s u c) where
 
 module _ (s : ℕ) (l : s < inside) (t : List ℕ) (a : ℕ) (fit : a ≤ length t) where
   -- a tag whose word is all there
-  pub begins-tag : (c : ℕ) → c < elements → share s (drop a t) c ≡ length (word c) → Begins s t a true c (a + share s (drop a t) c)
+  pub begins-tag : (c : ℕ) → c < elements → share s (drop a t) c ≡ length (word c) → Stands s t a (record { element = c; at = a + share s (drop a t) c })
   begins-tag c k e =
       let some = word-starts c (omega arith) in
       let may = share-stands s (drop a t) c (omega arith) in
       let goes = goes-lefts (inner s) (word c) fit (sym (share-common s (drop a t) c may) ∙ e) (rw (right s c l k may) (right-hope s c l k may)) in
-      record {
-        yes = λ d. rw (e, ← right s c l k may) goes;
-        past = λ d. omega arith;
-        tag = λ d. k;
-        stands = λ d. may;
-        no = λ d. absurd (true≢false d);
-      }
+      record { goes = rw (e, ← right s c l k may) goes; past = omega arith; tag = k; stands = may }
 
   module _ (none : none-whole s (drop a t) elements ≡ true) where
     abbrev u : List ℕ
@@ -260,13 +234,7 @@ module _ (s : ℕ) (l : s < inside) (t : List ℕ) (a : ℕ) (fit : a ≤ length
           (not-true _ (both-second (not (hopeless behind) && not (may_end behind)) _ test)) (excluded (get_or t (a + n) 0) h refl)))
 
     -- no tag's word is all there
-    pub begins-none : (c : ℕ) → Begins s t a false c (a + n)
-    begins-none c =
+    pub begins-none : Stops (inner s) t a (a + n)
+    begins-none =
         let r = leader s u l elements (omega arith) in
-        record {
-          yes = λ e. absurd (false≢true e);
-          past = λ e. absurd (false≢true e);
-          tag = λ e. absurd (false≢true e);
-          stands = λ e. absurd (false≢true e);
-          no = λ e. goes-stops (inner s) _ (goes r.tag r.known r.stands r.has) (stops r.tag r.known r.stands r.has);
-        }
+        goes-stops (inner s) (behind r.tag r.known r.stands r.has) (goes r.tag r.known r.stands r.has) (stops r.tag r.known r.stands r.has)

@@ -3,11 +3,12 @@
 use Prim.Native.Nat.{ℕ, ◌≤◌, ◌<◌}
 use native.Mathlib.Omega.{arith}
 use mathlib.Core.Path.{◌≡◌, refl, sym, ◌∙◌}
-use mathlib.Core.Bool.{Bool, true, false, ◌&&◌, false≢true}
+use mathlib.Core.Bool.{true, false, ◌&&◌, false≢true}
 use mathlib.Core.List.{List, [], ◌∷◌}
 use borrow.Author.Tests.{ne_eqb}
 use lib.Dec.{eqb, ltb}
 use lib.ListN.{length, get_or}
+use Rattle.std.specs.Prelude.{Result, Ok}
 use Rattle.forms.specs.Form.{space, Form, nothing, ◌or◌, may_end, hopeless, bytes, left}
 use Rattle.forms.proofs.Laws.{joined-assoc}
 use Rattle.forms.proofs.Sequence.{left_or, begun}
@@ -15,9 +16,11 @@ use Rattle.forms.proofs.Runs.{left_word}
 use Rattle.xml.specs.Grammar.{◌▸◌, text, gap, name, attribute, spaced, both}
 use Rattle.reader.specs.Words.{word_count, named, word}
 use Rattle.reader.specs.Parts.{in_turn, Told}
-use Rattle.reader.specs.Scan.{Scans, run_end}
+use Rattle.reader.specs.Scan.{RunsOn, Scans}
+use Rattle.reader.specs.declared.misfit.Misfit.{Misfit}
 use Rattle.reader.proofs.Computed.{computed}
 use Rattle.reader.proofs.Letters.{word-starts}
+use Rattle.reader.proofs.Counts.{some_fits}
 use Rattle.reader.proofs.Steps.{Apart}
 use Rattle.reader.proofs.Values.{attribute-hope}
 use Rattle.reader.proofs.Pieces.{hope-then, scans-some}
@@ -109,19 +112,19 @@ module _ (m n : ℕ) (told : Told m n) where
   unfolding hopeless
   turns-hope = rw (turn-hope m n)
 
-  module _ {t : List ℕ} {a b : ℕ} {x : Bool} (fit : run_end space t a ≤ length t) (low : a ≤ length t) (some : a < run_end space t a) where
+  module _ {t : List ℕ} {a b : ℕ} {r : Result ℕ Misfit} (low : a ≤ length t) (some : RunsOn space t a (Ok b)) where
     -- the first in front, and the second in front
-    pub pair-first : ltb (run_end space t a) (length t) && eqb (get_or t (run_end space t a) 0) (get_or (word n) 0 0) ≡ false
-        → Scans (in_turn (named m) (named n)) t (run_end space t a) x b → Scans (both (attribute (named m) name) (attribute (named n) name)) t a x b
+    pub pair-first : ltb b (length t) && eqb (get_or t b 0) (get_or (word n) 0 0) ≡ false
+        → Scans (in_turn (named m) (named n)) t b r → Scans (both (attribute (named m) name) (attribute (named n) name)) t a r
     pair-first e p =
-        scans-some space either-turn turns-apart turns-hope low
-        (scans-first (in_turn (named m) (named n)) (in_turn (named n) (named m)) (turn-must m n told.first) (turn-must n m told.second) fit
-        (turn-begun m n told.first) (λ l. turn-other n m told.second (get_or t (run_end space t a) 0) (starts-no (word n) t (run_end space t a) e l)) p) some
+        scans-some space either-turn turns-apart turns-hope low some
+        (scans-first (in_turn (named m) (named n)) (in_turn (named n) (named m)) (turn-must m n told.first) (turn-must n m told.second)
+        (some_fits space t a b low some) (turn-begun m n told.first) (λ l. turn-other n m told.second (get_or t b 0) (starts-no (word n) t b e l)) p)
 
-    pub pair-second : ltb (run_end space t a) (length t) && eqb (get_or t (run_end space t a) 0) (get_or (word n) 0 0) ≡ true
-        → Scans (in_turn (named n) (named m)) t (run_end space t a) x b → Scans (both (attribute (named m) name) (attribute (named n) name)) t a x b
+    pub pair-second : ltb b (length t) && eqb (get_or t b 0) (get_or (word n) 0 0) ≡ true
+        → Scans (in_turn (named n) (named m)) t b r → Scans (both (attribute (named m) name) (attribute (named n) name)) t a r
     pair-second e p =
-        scans-some space either-turn turns-apart turns-hope low
-        (scans-second (in_turn (named m) (named n)) (in_turn (named n) (named m)) (turn-must m n told.first) (turn-must n m told.second) fit
-        (turn-begun n m told.second)
-        (λ l. turn-other m n told.first (get_or t (run_end space t a) 0) (λ d. told.differ (sym d ∙ starts-yes (word n) t (run_end space t a) e))) p) some
+        scans-some space either-turn turns-apart turns-hope low some
+        (scans-second (in_turn (named m) (named n)) (in_turn (named n) (named m)) (turn-must m n told.first) (turn-must n m told.second)
+        (some_fits space t a b low some) (turn-begun n m told.second)
+        (λ l. turn-other m n told.first (get_or t b 0) (λ d. told.differ (sym d ∙ starts-yes (word n) t b e))) p)

@@ -3,19 +3,20 @@
 use Prim.Native.Nat.{ℕ, ◌+◌, ◌≤◌, ◌<◌}
 use native.Mathlib.Omega.{arith}
 use mathlib.Core.Path.{◌≡◌, refl, sym, subst, ◌∙◌}
-use mathlib.Core.Bool.{Bool, true, false, ◌&&◌, and_assoc, false≢true}
+use mathlib.Core.Bool.{false, ◌&&◌, and_assoc, false≢true}
 use mathlib.Core.List.{List, [], ◌∷◌}
-use borrow.Author.Tests.{eqb-true, eqb-false, ne_eqb}
-use lib.Dec.{eqb}
+use borrow.Author.Tests.{ne_eqb}
 use lib.ListN.{length, drop, get_or}
+use Rattle.std.specs.Prelude.{Result, Ok, Err}
 use Rattle.forms.specs.Form.{Kind, is_of, Form, nothing, blank, one, ◌then◌, ◌or◌, many, may_end, hopeless, joined, bytes}
 use Rattle.forms.specs.Run.{common}
 use Rattle.forms.proofs.Laws.{joined-assoc, hopeless-joined}
 use Rattle.forms.proofs.Runs.{common-fits, left_word}
 use Rattle.xml.specs.Grammar.{◌▸◌}
-use Rattle.reader.specs.Scan.{run_end, Found, Scans}
-use Rattle.reader.proofs.Scans.{goes-found, took, stopped}
-use Rattle.reader.proofs.Steps.{Apart, goes-many, goes_some, stops-some, goes-word, stops-word}
+use Rattle.reader.specs.Scan.{run_end, RunsOn, Found, Scans}
+use Rattle.reader.specs.declared.misfit.Misfit.{Misfit}
+use Rattle.reader.proofs.Scans.{took, stopped, goes-found}
+use Rattle.reader.proofs.Steps.{Apart, goes-many, runs_some, runs-none, goes-word, stops-word}
 
 -- f and then g have a text if both have
 pub hope-then : (f g : Form) → hopeless f ≡ false → hopeless g ≡ false → hopeless (f ▸ g) ≡ false
@@ -35,55 +36,49 @@ module _ {t : List ℕ} {a : ℕ} where
   -- ---- one piece and then another
 
   -- the first took
-  pub scans-then : (f g : Form) {b c : ℕ} {x y : Bool} → hopeless g ≡ false → y ≡ true → Scans f t a y b → Scans g t b x c → Scans (f ▸ g) t a x c
-  scans-then f g {b} {c} {x} h e p q k hope =
-      subst (λ s. Found s t a x k c) (sym (joined-assoc f g k))
-      (goes-found (f ▸ g ▸ k) (g ▸ k) k ((p (g ▸ k) (hope-then g k h hope)).yes e) (q k hope))
+  pub scans-then : (f g : Form) {b : ℕ} {r : Result ℕ Misfit} → hopeless g ≡ false → Scans f t a (Ok b) → Scans g t b r → Scans (f ▸ g) t a r
+  scans-then f g {r = r} h p q k hope =
+      subst (λ s. Found s t a r k) (sym (joined-assoc f g k))
+      (goes-found (f ▸ g ▸ k) (g ▸ k) k (p (g ▸ k) (hope-then g k h hope)).took.0 (q k hope))
 
   -- the first stopped
-  pub scans-stops : (f g : Form) {b : ℕ} {x : Bool} → hopeless g ≡ false → x ≡ false → Scans f t a x b → Scans (f ▸ g) t a x b
-  scans-stops f g {b} {x} h e p k hope =
-      rw (joined-assoc f g k, e) (stopped (f ▸ g ▸ k) k ((p (g ▸ k) (hope-then g k h hope)).no e))
+  pub scans-stops : (f g : Form) {m : Misfit} → hopeless g ≡ false → Scans f t a (Err m) → Scans (f ▸ g) t a (Err m)
+  scans-stops f g h p k hope = rw (joined-assoc f g k) (stopped (f ▸ g ▸ k) k (p (g ▸ k) (hope-then g k h hope)).stopped)
 
   -- what was taken is a byte at least, and ends in the text
-  pub scans-past : (f : Form) {b : ℕ} {x : Bool} → x ≡ true → Scans f t a x b → a < b
+  pub scans-past : (f : Form) {b : ℕ} → Scans f t a (Ok b) → a < b
   unfolding hopeless
-  scans-past f e p = (p blank refl).past e
+  scans-past f p = (p blank refl).took.1
 
-  pub scans-fit : (f : Form) {b : ℕ} {x : Bool} → x ≡ true → Scans f t a x b → b ≤ length t
+  pub scans-fit : (f : Form) {b : ℕ} → Scans f t a (Ok b) → b ≤ length t
   unfolding hopeless
-  scans-fit f e p = ((p blank refl).yes e).fits
+  scans-fit f p = (p blank refl).took.0.fits
 
   -- ---- a word
 
-  pub scans-word : (w : List ℕ) (n : ℕ) → a ≤ length t → 1 ≤ length w → n ≡ common w (drop a t) → Scans (bytes w) t a (eqb n (length w)) (a + n)
-  scans-word w n fit some e k hope = go (eqb n (length w)) refl
-    where
-      go : (x : Bool) → eqb n (length w) ≡ x → Found (bytes w ▸ k) t a x k (a + n)
-      go true d =
-          let whole = eqb-true n (length w) d in
-          rw whole (took (bytes w ▸ k) k (goes-word w k fit (sym e ∙ whole) hope) (omega arith))
-      go false d =
-          let part = eqb-false n (length w) d in
-          let l = common-fits w (drop a t) in
-          rw e (stopped (bytes w ▸ k) k (stops-word w k (omega arith) hope))
+  module _ (w : List ℕ) (n : ℕ) (fit : a ≤ length t) (e : n ≡ common w (drop a t)) where
+    pub scans-word : 1 ≤ length w → n ≡ length w → Scans (bytes w) t a (Ok (a + n))
+    scans-word some whole k hope = took (bytes w ▸ k) k (rw whole (goes-word w k fit (sym e ∙ whole) hope)) (omega arith)
+
+    pub scans-part : (n ≡ length w → ⊥) → Scans (bytes w) t a (Err (record { 0 = a + n }))
+    scans-part part k hope = let l = common-fits w (drop a t) in stopped (bytes w ▸ k) k (rw e (stops-word w k (omega arith) hope))
 
   -- ---- bytes of a kind in front
 
-  module _ (q : Kind) (g : Form) {b : ℕ} {x : Bool} (other : (k : Form) → Apart q (g ▸ k)) (h : hopeless g ≡ false) (fit : a ≤ length t)
-      (p : Scans g t (run_end q t a) x b) where
-    pub scans-many : Scans (many (one q) ▸ g) t a x b
+  module _ (q : Kind) (g : Form) {r : Result ℕ Misfit} (other : (k : Form) → Apart q (g ▸ k)) (h : hopeless g ≡ false) (fit : a ≤ length t) where
+    pub scans-many : Scans g t (run_end q t a) r → Scans (many (one q) ▸ g) t a r
     unfolding joined
-    scans-many k hope = goes-found (many (one q) ▸ g ▸ k) (g ▸ k) k (goes-many q (g ▸ k) (other k) (hope-then g k h hope) fit) (p k hope)
+    scans-many p k hope = goes-found (many (one q) ▸ g ▸ k) (g ▸ k) k (goes-many q (g ▸ k) (other k) (hope-then g k h hope) fit) (p k hope)
 
-    pub scans-some : a < run_end q t a → Scans (one q ▸ many (one q) ▸ g) t a x b
+    pub scans-some : {b : ℕ} → RunsOn q t a (Ok b) → Scans g t b r → Scans (one q ▸ many (one q) ▸ g) t a r
     unfolding joined
-    scans-some l k hope = goes-found (one q ▸ many (one q) ▸ g ▸ k) (g ▸ k) k (goes_some q (g ▸ k) (other k) (hope-then g k h hope) fit l) (p k hope)
+    scans-some some p k hope =
+        goes-found (one q ▸ many (one q) ▸ g ▸ k) (g ▸ k) k (runs_some q (g ▸ k) (other k) (hope-then g k h hope) fit some) (p k hope)
 
   -- there is none of them
-  pub scans-none : (q : Kind) (g : Form) → run_end q t a ≡ a → Scans (one q ▸ g) t a false a
+  pub scans-none : (q : Kind) (g : Form) {m : Misfit} → RunsOn q t a (Err m) → Scans (one q ▸ g) t a (Err m)
   unfolding joined
-  scans-none q g e k hope = stopped (one q ▸ g ▸ k) k (stops-some q (g ▸ k) e)
+  scans-none q g p k hope = stopped (one q ▸ g ▸ k) k (runs-none q (g ▸ k) p)
 
 -- a word has a text
 pub word-hope : (w : List ℕ) → hopeless (bytes w) ≡ false

@@ -9,14 +9,16 @@ use borrow.Author.Tests.{eq-eqb, ltb-true, ltb-false}
 use lib.Dec.{ltb}
 use lib.ListN.{length, take, drop, get_or, take-append-drop, length-drop, drop_of_length-le}
 use lib.Seq.{drop-drop, drop-cons}
+use Rattle.std.specs.Prelude.{Result, Ok, Err}
 use Rattle.forms.specs.Form.{Kind, is_of, Form, nothing, one, many, may_end, hopeless, joined, bytes, left, lefts, is_of_form, reach}
 use Rattle.forms.specs.Run.{run, common}
 use Rattle.forms.proofs.Laws.{hopeless-goes-on, hopeless-left, lefts-++, reach-took}
 use Rattle.forms.proofs.Sequence.{left_one}
 use Rattle.forms.proofs.Runs.{run-stops, run-all, run_fits, run-induction, many-past, many-same, run-reach, common-induction, common-fits-text, common-same, common-reach, left_word}
 use Rattle.xml.specs.Grammar.{◌▸◌}
-use Rattle.reader.specs.Scan.{run_end, Goes, Stops}
-use Rattle.reader.proofs.Scans.{goes_on}
+use Rattle.reader.specs.Scan.{run_end, RunsOn, Goes, Stops, Found}
+use Rattle.reader.specs.declared.misfit.Misfit.{Misfit}
+use Rattle.reader.proofs.Scans.{took, stopped, goes_on}
 
 -- bytes after which there is hope
 pub goes_after : (f : Form) (w : List ℕ) {t : List ℕ} {a : ℕ} → a + length w ≤ length t → take (length w) (drop a t) ≡ w → hopeless (lefts f w) ≡ false
@@ -128,7 +130,7 @@ module _ (q : Kind) (k : Form) {t : List ℕ} {a : ℕ} (other : Apart q k) (hop
       }
 
   -- one of them at least
-  pub goes_some : a < run_end q t a → Goes (one q ▸ many (one q) ▸ k) t a k (run_end q t a)
+  goes_some : a < run_end q t a → Goes (one q ▸ many (one q) ▸ k) t a k (run_end q t a)
   unfolding may_end joined
   goes_some l =
       let m = length-drop a t in
@@ -141,13 +143,25 @@ module _ (q : Kind) (k : Form) {t : List ℕ} {a : ℕ} (other : Apart q k) (hop
       goes-many
 
 -- there is none of them
-pub stops-some : (q : Kind) (k : Form) {t : List ℕ} {a : ℕ} → run_end q t a ≡ a → Stops (one q ▸ k) t a a
+stops-some : (q : Kind) (k : Form) {t : List ℕ} {a : ℕ} → run_end q t a ≡ a → Stops (one q ▸ k) t a a
 unfolding may_end joined hopeless
 stops-some q k {t} {a} e =
     stops-here (one q ▸ k) refl (λ l. rw (left_one q k (get_or t a 0), run-stops q (drop a t) (get_or t a 0) (drop (suc a) t) (rest l)))
   where
     rest : a < length t → drop (run q (drop a t)) (drop a t) ≡ get_or t a 0 ∷ drop (suc a) t
     rest l = let z : run q (drop a t) ≡ 0 = omega arith in rw z (drop-cons t a 0 l)
+
+-- one of them at least, or none
+pub runs-none : (q : Kind) (k : Form) {t : List ℕ} {a : ℕ} {m : Misfit} → RunsOn q t a (Err m) → Stops (one q ▸ k) t a m.0
+runs-none q k p = rw p.none.0 (stops-some q k p.none.1)
+
+module _ (q : Kind) (k : Form) {t : List ℕ} {a : ℕ} (other : Apart q k) (hope : hopeless k ≡ false) (fit : a ≤ length t) where
+  pub runs_some : {b : ℕ} → RunsOn q t a (Ok b) → Goes (one q ▸ many (one q) ▸ k) t a k b
+  runs_some p = rw p.some.0 (goes_some q k other hope fit (rw p.some.0 at p.some.1))
+
+  pub runs-found : {r : Result ℕ Misfit} → RunsOn q t a r → Found (one q ▸ many (one q) ▸ k) t a r k
+  runs-found {r = Ok b} p = took (one q ▸ many (one q) ▸ k) k (runs_some p) p.some.1
+  runs-found {r = Err m} p = stopped (one q ▸ many (one q) ▸ k) k (runs-none q (many (one q) ▸ k) p)
 
 -- ---- a word
 

@@ -3,9 +3,10 @@
 use Prim.Native.Nat.{ℕ, ◌<◌}
 use Prim.Native.String.{String}
 use mathlib.Core.Path.{◌≡◌, refl, sym, subst}
-use mathlib.Core.Bool.{Bool, true, false}
+use mathlib.Core.Bool.{false}
 use mathlib.Core.List.{List}
 use lib.ListN.{get_or}
+use Rattle.std.specs.Prelude.{Result, Ok, Err}
 use Rattle.forms.specs.Form.{ascii, Kind, is_of, Form, hopeless}
 use Rattle.forms.specs.Code.{kind_of}
 use Rattle.forms.specs.declared.kind.ByteKind.{ByteKind}
@@ -15,6 +16,7 @@ use Rattle.xml.specs.Grammar.{◌▸◌, text, gap, attribute}
 use Rattle.reader.specs.Words.{word_count, named, word}
 use Rattle.reader.specs.Parts.{opened}
 use Rattle.reader.specs.Scan.{Scans}
+use Rattle.reader.specs.declared.misfit.Misfit.{Misfit}
 use Rattle.reader.proofs.Computed.{computed}
 use Rattle.reader.proofs.Letters.{word-starts}
 use Rattle.reader.proofs.Steps.{Apart}
@@ -43,14 +45,14 @@ module _ (n : String) (v : Form) where
     unfolding computed
     attribute-hope = hope-then (text n) (gap ▸ text "=" ▸ gap ▸ text "\"" ▸ v ▸ text "\"") (word-hope (ascii n)) value-hope
 
-    module _ {t : List ℕ} {a b c : ℕ} {x y : Bool} where
+    module _ {t : List ℕ} {a : ℕ} where
       -- the opening took, and then the value and the quote took or stopped
-      pub opened-valued : y ≡ true → Scans (opened n) t a y b → Scans (v ▸ text "\"") t b x c → Scans (attribute n v) t a x c
-      opened-valued e p q = subst (λ f. Scans f t a x c) valued (scans-then (opened n) (v ▸ text "\"") value-hope e p q)
+      pub opened-valued : {b : ℕ} {r : Result ℕ Misfit} → Scans (opened n) t a (Ok b) → Scans (v ▸ text "\"") t b r → Scans (attribute n v) t a r
+      opened-valued {r = r} p q = subst (λ f. Scans f t a r) valued (scans-then (opened n) (v ▸ text "\"") value-hope p q)
 
-    -- the opening stopped
-    pub stopped-valued : {t : List ℕ} {a b : ℕ} {x : Bool} → x ≡ false → Scans (opened n) t a x b → Scans (attribute n v) t a x b
-    stopped-valued {t} {a} {b} {x} e p = subst (λ f. Scans f t a x b) valued (scans-stops (opened n) (v ▸ text "\"") value-hope e p)
+      -- the opening stopped
+      pub stopped-valued : {m : Misfit} → Scans (opened n) t a (Err m) → Scans (attribute n v) t a (Err m)
+      stopped-valued {m = m} p = subst (λ f. Scans f t a (Err m)) valued (scans-stops (opened n) (v ▸ text "\"") value-hope p)
 
 -- an attribute begins with no byte of a kind that its name's first byte is not of
 pub attribute-apart : (q : Kind) (w : ℕ) (v k : Form) → w < word_count → is_of q (get_or (word w) 0 0) ≡ false → Apart q (attribute (named w) v ▸ k)

@@ -4,17 +4,17 @@ use Prim.Native.Nat.{ℕ, ◌+◌, ◌<◌}
 use native.Mathlib.Omega.{arith}
 use native.Mathlib.Nat.{zero-add}
 use mathlib.Core.Path.{◌≡◌, refl, sym, ap, ◌∙◌}
-use mathlib.Core.Bool.{Bool, true, false}
+use mathlib.Core.Bool.{true, false}
 use mathlib.Core.List.{List}
-use borrow.Author.Tests.{eqb-true, eqb-false}
-use lib.Dec.{eqb}
 use lib.ListN.{length, drop, length-drop}
+use Rattle.std.specs.Prelude.{Ok, Err}
 use Rattle.forms.specs.Form.{Kind, space, is_of, nothing, one, many, may_end, hopeless, joined, left, lefts, is_of_form, reach}
 use Rattle.forms.specs.Run.{run}
 use Rattle.forms.proofs.Runs.{run-induction, run_fits}
-use Rattle.xml.specs.Grammar.{gap, set}
+use Rattle.xml.specs.Grammar.{set}
 use Rattle.reader.specs.Table.{inner, ahead}
-use Rattle.reader.specs.Scan.{run_end, Goes, Stops}
+use Rattle.reader.specs.Scan.{run_end, Goes}
+use Rattle.reader.specs.Read.{Reached}
 use Rattle.reader.proofs.Computed.{computed}
 use Rattle.reader.proofs.Steps.{hopeless-form}
 
@@ -52,28 +52,23 @@ module _ (t : List ℕ) where
   unfolding computed ahead inner
   whole-start = record { upwards = omega arith; fits = omega arith; reaches = refl; same = refl }
 
-  -- a tag stopped
-  pub whole-stops : (s p b : ℕ) → Goes set t 0 (ahead s) p → Stops (ahead s) t p b → (b ≡ reach set t) × (false ≡ is_of_form set t)
-  whole-stops s p b so q = (sym q.stops ∙ sym so.reaches ∙ zero-add (reach set t), sym q.never ∙ sym so.same)
+  -- behind the last there is white space alone, to the end or not
+  module _ (p n : ℕ) (so : Goes set t 0 (ahead 7) p) (e : n ≡ run_end space t p) where
+    gap-reach : reach set t ≡ n
+    unfolding ahead
+    gap-reach = sym (zero-add (reach set t)) ∙ so.reaches ∙ ap (λ m. p + m) (reach-run space (drop p t)) ∙ sym e
 
-  -- behind the last there is white space alone
-  whole-gap : (p n : ℕ) → Goes set t 0 gap p → n ≡ run_end space t p → (n ≡ reach set t) × (eqb n (length t) ≡ is_of_form set t)
-  whole-gap p n so r =
-      (r ∙ ap (λ m. p + m) (sym (reach-run space (drop p t))) ∙ sym so.reaches ∙ zero-add (reach set t), go (eqb n (length t)) refl ∙ sym so.same)
-    where
-      go : (x : Bool) → eqb n (length t) ≡ x → x ≡ is_of_form gap (drop p t)
-      go true e =
-          let d = eqb-true n (length t) e in
-          let m = length-drop p t in
-          let fit = so.fits in
-          sym ((form-run space (drop p t)).0 (omega arith))
-      go false e =
-          let d = eqb-false n (length t) e in
-          let m = length-drop p t in
-          let l = run_fits space (drop p t) in
-          let fit = so.fits in
-          sym ((form-run space (drop p t)).1 (omega arith))
+    pub whole-ends : n ≡ length t → Reached set t (Ok tt)
+    unfolding ahead
+    whole-ends d =
+        let m = length-drop p t in
+        let fit = so.fits in
+        (so.same ∙ (form-run space (drop p t)).0 (omega arith), gap-reach ∙ d)
 
-  pub whole-ends : (s p n : ℕ) → s ≡ 7 → Goes set t 0 (ahead s) p → n ≡ run_end space t p → (n ≡ reach set t) × (eqb n (length t) ≡ is_of_form set t)
-  unfolding ahead
-  whole-ends s p n e so r = whole-gap p n (rw e at so) r
+    pub whole-not : (n ≡ length t → ⊥) → Reached set t (Err (record { 0 = n }))
+    unfolding ahead
+    whole-not d =
+        let m = length-drop p t in
+        let l = run_fits space (drop p t) in
+        let fit = so.fits in
+        (so.same ∙ (form-run space (drop p t)).1 (omega arith), gap-reach)

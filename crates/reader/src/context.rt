@@ -5,88 +5,54 @@ ghost use Rattle.xml.specs.Grammar.{◌▸◌, text as exactly, gap, level as le
 ghost use Rattle.reader.specs.Parts.{some, after_level, level_value};
 ghost use Rattle.reader.specs.Scan.{Scans, Leads};
 
-use crate::run::run_end;
-use crate::scan::{Scan, word_after};
+use crate::misfit::Misfit;
+use crate::run::{run_end, some_end};
+use crate::scan::word_after;
 use crate::word::{COMMA, EQUALS, QUOTE, starts};
 use forms::kind::ByteKind;
 
 // A level's type and its sign.
-fn level_type(text: &[u8], at: usize) -> Scan
+fn level_type(text: &[u8], at: usize) -> Result<usize, Misfit>
     requires { at ≤ length text.now }
-    ensures { Scans (some of_name ▸ gap ▸ exactly "=") text.now at result.took result.at }
+    ensures { Scans (some of_name ▸ gap ▸ exactly "=") text.now at result }
 {
-    let end = run_end(text, at, ByteKind::Name);
-    if end == at {
-        return Scan { took: false, at };
-    }
+    let end = some_end(text, at, ByteKind::Name)?;
     word_after(text, end, ByteKind::Space, EQUALS)
 }
 
 // A level's value, from its first byte on.
-fn level_value(text: &[u8], at: usize) -> Scan
+fn level_value(text: &[u8], at: usize) -> Result<usize, Misfit>
     requires { at ≤ length text.now }
-    ensures { Leads (level_value ▸ after_level) after_level text.now at result.took result.at }
+    ensures { Leads (level_value ▸ after_level) after_level text.now at result }
 {
-    if at < text.len() {
-        if text[at] == b'*' {
-            return Scan {
-                took: true,
-                at: at + 1,
-            };
-        }
-        if text[at] == b'!' {
-            return Scan {
-                took: true,
-                at: at + 1,
-            };
-        }
-        let end = run_end(text, at, ByteKind::Name);
-        return Scan {
-            took: end != at,
-            at: end,
-        };
+    match text.get(at) {
+        Some(b'*' | b'!') => Ok(at + 1),
+        _ => some_end(text, at, ByteKind::Name),
     }
-    Scan { took: false, at }
 }
 
-fn level(text: &[u8], at: usize) -> Scan
+fn level(text: &[u8], at: usize) -> Result<usize, Misfit>
     requires { at ≤ length text.now }
-    ensures { Leads (level_of ▸ after_level) after_level text.now at result.took result.at }
+    ensures { Leads (level_of ▸ after_level) after_level text.now at result }
 {
-    let sign = level_type(text, at);
-    if !sign.took {
-        return sign;
-    }
-    level_value(text, run_end(text, sign.at, ByteKind::Space))
+    let sign = level_type(text, at)?;
+    level_value(text, run_end(text, sign, ByteKind::Space))
 }
 
-pub fn context(text: &[u8], at: usize) -> Scan
+pub fn context(text: &[u8], at: usize) -> Result<usize, Misfit>
     requires { at ≤ length text.now }
-    ensures { Scans (context_of ▸ exactly "\"") text.now at result.took result.at }
+    ensures { Scans (context_of ▸ exactly "\"") text.now at result }
 {
     if starts(QUOTE, text, at) {
-        return Scan {
-            took: true,
-            at: at + 1,
-        };
+        return Ok(at + 1);
     }
     let mut p = at;
     loop {
-        let one = level(text, p);
-        if !one.took {
-            return one;
-        }
-        let end = one.at;
+        let end = level(text, p)?;
         if starts(QUOTE, text, end) {
-            return Scan {
-                took: true,
-                at: end + 1,
-            };
+            return Ok(end + 1);
         }
-        let comma = word_after(text, end, ByteKind::Space, COMMA);
-        if !comma.took {
-            return comma;
-        }
-        p = run_end(text, comma.at, ByteKind::Space);
+        let comma = word_after(text, end, ByteKind::Space, COMMA)?;
+        p = run_end(text, comma, ByteKind::Space);
     }
 }

@@ -1,15 +1,15 @@
 // Which tag begins at a place behind white space.
 ghost use Rattle.std.specs.Prelude.{◌≡◌, ◌≤◌, ◌<◌, length, drop};
 ghost use Rattle.reader.specs.Table.{states, elements};
-ghost use Rattle.reader.specs.Begin.{share as share_of, larger as larger_of, Begins};
+ghost use Rattle.reader.specs.Begin.{share as share_of, Begins};
 
+use crate::misfit::Misfit;
 use crate::table::{ELEMENTS, NONE, next_state};
-use crate::word::{length_of, matched};
+use crate::word::{matched, word};
 
-// A tag and the end of its word; or the first byte that does not fit.
+// A tag and the end of its word.
 #[derive(Clone, Copy)]
-pub struct Beginning {
-    pub found: bool,
+pub struct Begun {
     pub element: usize,
     pub at: usize,
 }
@@ -20,39 +20,27 @@ fn share(text: &[u8], at: usize, s: usize, c: usize) -> usize
     ensures { result ≡ share_of s (drop at text.now) c }
 {
     if next_state(s, c) < NONE {
-        return matched(c, text, at);
+        matched(c, text, at)
+    } else {
+        0
     }
-    0
 }
 
-fn larger(m: usize, n: usize) -> usize
-    ensures { result ≡ larger_of m n }
-{
-    if m < n {
-        return n;
-    }
-    m
-}
-
-pub fn begin(text: &[u8], at: usize, s: usize) -> Beginning
+// One loop and no chain: it gives the tag that is all there, or how far the others go.
+pub fn begin(text: &[u8], at: usize, s: usize) -> Result<Begun, Misfit>
     requires { (at ≤ length text.now) × (s < 7) }
-    ensures { Begins s text.now at result.found result.element result.at }
+    ensures { Begins s text.now at result }
 {
     let mut best = 0;
     for c in 0..ELEMENTS {
         let n = share(text, at, s, c);
-        if n == length_of(c) {
-            return Beginning {
-                found: true,
+        if n == word(c).len() {
+            return Ok(Begun {
                 element: c,
                 at: at + n,
-            };
+            });
         }
-        best = larger(best, n);
+        best = best.max(n);
     }
-    Beginning {
-        found: false,
-        element: 0,
-        at: at + best,
-    }
+    Err(Misfit(at + best))
 }

@@ -4,6 +4,7 @@
 mod attribute;
 mod context;
 mod element;
+pub mod misfit;
 pub mod reached;
 mod reader;
 mod reading;

@@ -1,39 +1,26 @@
 // How far a text is a policy set's, and whether it is one.
-ghost use Rattle.std.specs.Prelude.{◌≡◌};
-ghost use Rattle.forms.specs.Form.{is_of_form, reach};
 ghost use Rattle.xml.specs.Grammar.{set};
+ghost use Rattle.reader.specs.Read.{Reached};
 
-use crate::reader::read_tag;
+use crate::misfit::Misfit;
+use crate::reader::Reader;
 use crate::run::run_end;
 use crate::table::BEHIND;
 use forms::kind::ByteKind;
 
-// The first byte that no policy set has there, from 0, the text's end counted; and whether the text is a whole one.
-#[derive(Clone, Copy)]
-pub struct Reached {
-    pub at: usize,
-    pub whole: bool,
-}
-
-pub fn reach_of(text: &[u8]) -> Reached
-    ensures { (result.at ≡ reach set text.now) × (result.whole ≡ is_of_form set text.now) }
+// `Ok` where the text is a whole one, or the first byte that no policy set has there.
+pub fn reach_of(text: &[u8]) -> Result<(), Misfit>
+    ensures { Reached set text.now result }
 {
-    let mut at = 0;
+    let mut reader = Reader::new(text, 0);
     let mut state = 0;
     while state != BEHIND {
-        let tag = read_tag(text, at, state);
-        if !tag.took {
-            return Reached {
-                at: tag.at,
-                whole: false,
-            };
-        }
-        at = tag.at;
-        state = tag.state;
+        state = reader.next_tag(state)?.state;
     }
-    let end = run_end(text, at, ByteKind::Space);
-    Reached {
-        at: end,
-        whole: end == text.len(),
+    let end = run_end(text, reader.at, ByteKind::Space);
+    if end == text.len() {
+        Ok(())
+    } else {
+        Err(Misfit(end))
     }
 }

@@ -1,7 +1,8 @@
-// "The reader holds its text and position together". `read_tag` serves every other caller.
-ghost use Rattle.std.specs.Prelude.{◌≡◌};
+// "The reader holds its text and position together".
+ghost use Rattle.std.specs.Prelude.{◌≡◌, IfOk};
 ghost use Rattle.reader.specs.Read.{ReadsTag};
 
+use crate::misfit::Misfit;
 use crate::reading::{Tag, tag_at};
 
 #[derive(Clone, Copy)]
@@ -10,21 +11,21 @@ pub struct Reader<'a> {
     pub at: usize,
 }
 
-pub fn new<'a>(text: &'a [u8], at: usize) -> Reader<'a>
-    ensures { (result.text ≡ text.entry) × (result.at ≡ at) }
-{
-    Reader { text, at }
-}
+impl<'a> Reader<'a> {
+    pub fn new(text: &'a [u8], at: usize) -> Reader<'a>
+        ensures { (result.text ≡ text.entry) × (result.at ≡ at) }
+    {
+        Reader { text, at }
+    }
 
-// The next tag, in a state.
-pub fn next<'a>(r: Reader<'a>, state: usize) -> Tag
-    ensures { ReadsTag state r.entry.text.now r.entry.at result }
-{
-    tag_at(r.text, r.at, state)
-}
-
-pub fn read_tag(text: &[u8], at: usize, state: usize) -> Tag
-    ensures { ReadsTag state text.now at result }
-{
-    next(new(text, at), state)
+    // The next tag, in a state. The reader goes on behind it.
+    pub fn next_tag(&mut self, state: usize) -> Result<Tag, Misfit>
+        ensures read { ReadsTag state self.old.text.now self.old.at result }
+        ensures text { self.new.text ≡ self.old.text }
+        ensures place { IfOk result (λ tag. self.new.at ≡ tag.at) }
+    {
+        let tag = tag_at(self.text, self.at, state)?;
+        self.at = tag.at;
+        Ok(tag)
+    }
 }

@@ -1,8 +1,9 @@
 // Bytes of one kind in a row.
 ghost use Rattle.std.specs.Prelude.{◌≡◌, ◌≤◌, length};
 ghost use Rattle.forms.specs.Code.{kind_of};
-ghost use Rattle.reader.specs.Scan.{run_end};
+ghost use Rattle.reader.specs.Scan.{run_end, RunsOn};
 
+use crate::misfit::Misfit;
 use forms::kind::{ByteKind, is_of};
 
 // Where the bytes of the kind end that stand at a place.
@@ -10,9 +11,14 @@ pub fn run_end(text: &[u8], at: usize, kind: ByteKind) -> usize
     requires { at ≤ length text.now }
     ensures { result ≡ run_end (kind_of kind) text.now at }
 {
-    let mut i = at;
-    while i < text.len() && is_of(kind, text[i]) {
-        i += 1;
-    }
-    i
+    at + text[at..].iter().take_while(|b| is_of(kind, **b)).count()
+}
+
+// The same, where one must stand there.
+pub fn some_end(text: &[u8], at: usize, kind: ByteKind) -> Result<usize, Misfit>
+    requires { at ≤ length text.now }
+    ensures { RunsOn (kind_of kind) text.now at result }
+{
+    let end = run_end(text, at, kind);
+    if end == at { Err(Misfit(at)) } else { Ok(end) }
 }

@@ -1,4 +1,4 @@
-// Pieces of a tag: a word, and a word behind bytes of a kind.
+// Pieces of a tag: a word, and a word behind bytes of a kind. `Ok` has the end of what was taken.
 ghost use Rattle.std.specs.Prelude.{◌≡◌, false, ◌≤◌, ◌<◌, length, get_or};
 ghost use Rattle.forms.specs.Code.{kind_of};
 ghost use Rattle.forms.specs.Form.{is_of, one, many};
@@ -6,44 +6,36 @@ ghost use Rattle.xml.specs.Grammar.{◌▸◌, text as exactly};
 ghost use Rattle.reader.specs.Words.{word_count, named, word};
 ghost use Rattle.reader.specs.Scan.{Scans};
 
-use crate::run::run_end;
-use crate::word::{length_of, matched};
+use crate::misfit::Misfit;
+use crate::run::{run_end, some_end};
+use crate::word::{matched, word};
 use forms::kind::ByteKind;
 
-// What a scanner found: the end of what it took, or the first byte that does not fit.
-#[derive(Clone, Copy)]
-pub struct Scan {
-    pub took: bool,
-    pub at: usize,
-}
-
-pub fn word_at(text: &[u8], at: usize, w: usize) -> Scan
+pub fn word_at(text: &[u8], at: usize, w: usize) -> Result<usize, Misfit>
     requires { (at ≤ length text.now) × (w < word_count) }
-    ensures { Scans (exactly (named w)) text.now at result.took result.at }
+    ensures { Scans (exactly (named w)) text.now at result }
 {
     let n = matched(w, text, at);
-    Scan {
-        took: n == length_of(w),
-        at: at + n,
+    if n == word(w).len() {
+        Ok(at + n)
+    } else {
+        Err(Misfit(at + n))
     }
 }
 
 // A word behind any number of bytes of a kind that its first byte is not of.
-pub fn word_after(text: &[u8], at: usize, kind: ByteKind, w: usize) -> Scan
+pub fn word_after(text: &[u8], at: usize, kind: ByteKind, w: usize) -> Result<usize, Misfit>
     requires { (at ≤ length text.now) × ((w < word_count) × (is_of (kind_of kind) (get_or (word w) 0 0) ≡ false)) }
-    ensures { Scans (many (one (kind_of kind)) ▸ exactly (named w)) text.now at result.took result.at }
+    ensures { Scans (many (one (kind_of kind)) ▸ exactly (named w)) text.now at result }
 {
     word_at(text, run_end(text, at, kind), w)
 }
 
 // The same, where one byte of the kind must stand there.
-pub fn word_after_some(text: &[u8], at: usize, kind: ByteKind, w: usize) -> Scan
+pub fn word_after_some(text: &[u8], at: usize, kind: ByteKind, w: usize) -> Result<usize, Misfit>
     requires { (at ≤ length text.now) × ((w < word_count) × (is_of (kind_of kind) (get_or (word w) 0 0) ≡ false)) }
-    ensures { Scans (one (kind_of kind) ▸ many (one (kind_of kind)) ▸ exactly (named w)) text.now at result.took result.at }
+    ensures { Scans (one (kind_of kind) ▸ many (one (kind_of kind)) ▸ exactly (named w)) text.now at result }
 {
-    let end = run_end(text, at, kind);
-    if end == at {
-        return Scan { took: false, at };
-    }
+    let end = some_end(text, at, kind)?;
     word_at(text, end, w)
 }

@@ -7,81 +7,59 @@ ghost use Rattle.reader.specs.Scan.{Scans};
 
 use crate::attribute::{opening, pair, spaced};
 use crate::context::context;
-use crate::run::run_end;
-use crate::scan::{Scan, word_after};
+use crate::misfit::Misfit;
+use crate::run::some_end;
+use crate::scan::word_after;
 use crate::word::{
     BUSINESS_CONTEXT, FORBIDDEN_CARDINALITY, GREATER, OPERATION, SLASH_GREATER, TARGET, TARGET_URI,
     TYPE, VALUE,
 };
 use forms::kind::ByteKind;
 
-fn context_attribute(text: &[u8], at: usize) -> Scan
+fn context_attribute(text: &[u8], at: usize) -> Result<usize, Misfit>
     requires { at ≤ length text.now }
-    ensures { Scans (spaced_of (attribute "BusinessContext" context_of)) text.now at result.took result.at }
+    ensures { Scans (spaced_of (attribute "BusinessContext" context_of)) text.now at result }
 {
-    let start = run_end(text, at, ByteKind::Space);
-    if start == at {
-        return Scan { took: false, at };
-    }
-    let begin = opening(text, start, BUSINESS_CONTEXT);
-    if !begin.took {
-        return begin;
-    }
-    context(text, begin.at)
+    let start = some_end(text, at, ByteKind::Space)?;
+    let value = opening(text, start, BUSINESS_CONTEXT)?;
+    context(text, value)
 }
 
-fn context_rest(text: &[u8], at: usize) -> Scan
+fn context_rest(text: &[u8], at: usize) -> Result<usize, Misfit>
     requires { at ≤ length text.now }
-    ensures { Scans context_rest text.now at result.took result.at }
+    ensures { Scans context_rest text.now at result }
 {
-    let one = context_attribute(text, at);
-    if !one.took {
-        return one;
-    }
-    word_after(text, one.at, ByteKind::Space, GREATER)
+    let end = context_attribute(text, at)?;
+    word_after(text, end, ByteKind::Space, GREATER)
 }
 
-fn cardinality_rest(text: &[u8], at: usize) -> Scan
+fn cardinality_rest(text: &[u8], at: usize) -> Result<usize, Misfit>
     requires { at ≤ length text.now }
-    ensures { Scans cardinality_rest text.now at result.took result.at }
+    ensures { Scans cardinality_rest text.now at result }
 {
-    let one = spaced(text, at, FORBIDDEN_CARDINALITY, ByteKind::Digit);
-    if !one.took {
-        return one;
-    }
-    word_after(text, one.at, ByteKind::Space, GREATER)
+    let end = spaced(text, at, FORBIDDEN_CARDINALITY, ByteKind::Digit)?;
+    word_after(text, end, ByteKind::Space, GREATER)
 }
 
 // Steps and members: two names.
-fn leaf_rest(text: &[u8], at: usize, m: usize, n: usize) -> Scan
+fn leaf_rest(text: &[u8], at: usize, m: usize, n: usize) -> Result<usize, Misfit>
     requires { (at ≤ length text.now) × Told m n }
-    ensures { Scans (two m n ▸ gap ▸ exactly "/>") text.now at result.took result.at }
+    ensures { Scans (two m n ▸ gap ▸ exactly "/>") text.now at result }
 {
-    let pair_end = pair(text, at, m, n);
-    if !pair_end.took {
-        return pair_end;
-    }
-    word_after(text, pair_end.at, ByteKind::Space, SLASH_GREATER)
+    let end = pair(text, at, m, n)?;
+    word_after(text, end, ByteKind::Space, SLASH_GREATER)
 }
 
-pub fn rest(text: &[u8], at: usize, c: usize) -> Scan
+pub fn rest(text: &[u8], at: usize, c: usize) -> Result<usize, Misfit>
     requires { (at ≤ length text.now) × (c < elements) }
-    ensures { Scans (rest_of c) text.now at result.took result.at }
+    ensures { Scans (rest_of c) text.now at result }
 {
-    if c == 2 {
-        return context_rest(text, at);
+    match c {
+        2 => context_rest(text, at),
+        4 | 5 => leaf_rest(text, at, OPERATION, TARGET_URI),
+        6 | 8 => cardinality_rest(text, at),
+        10 => leaf_rest(text, at, TYPE, VALUE),
+        11 => leaf_rest(text, at, VALUE, TARGET),
+        _ => word_after(text, at, ByteKind::Space, GREATER),
     }
-    if (c == 4) | (c == 5) {
-        return leaf_rest(text, at, OPERATION, TARGET_URI);
-    }
-    if (c == 6) | (c == 8) {
-        return cardinality_rest(text, at);
-    }
-    if c == 10 {
-        return leaf_rest(text, at, TYPE, VALUE);
-    }
-    if c == 11 {
-        return leaf_rest(text, at, VALUE, TARGET);
-    }
-    word_after(text, at, ByteKind::Space, GREATER)
 }

@@ -10,6 +10,7 @@ ghost use Rattle.text_read.specs.Code.{outcome, read_of};
 use crate::in_turn::read_tags;
 use fields::layout::{BLOCK_BYTES, MOST_RULES};
 use numbering::anew::write_image;
+use reader::misfit::Misfit;
 use reader::reached::reach_of;
 
 // What reading answers: the number of a refusal for a name or a limit, the first byte that the form does not have, or the length of the image.
@@ -26,21 +27,18 @@ pub fn read_text(text: &[u8], list: &[u8], second: &[u8], rules: usize, output: 
     ensures { outcome (read_of result) output.new ≡ refusing (read_fault text.now list.now second.now (length output.old)) output.old (resulting (read_image text.now list.now second.now) output.old) }
 {
     let reached = reach_of(text);
+    let end = match reached {
+        Ok(()) => text.len(),
+        Err(Misfit(at)) => at,
+    };
     let mut image = [0u8; BLOCK_BYTES * MOST_RULES as usize];
     let permissions = second.len() / BLOCK_BYTES - rules;
-    let turn = read_tags(
-        list,
-        text,
-        reached.at,
-        permissions,
-        output.len(),
-        &mut image,
-    );
+    let turn = read_tags(list, text, end, permissions, output.len(), &mut image);
     if turn.fault != 0 {
         return Read::Refused(turn.fault);
     }
-    if !reached.whole {
-        return Read::Misfit(reached.at);
+    if let Err(Misfit(at)) = reached {
+        return Read::Misfit(at);
     }
     Read::Length(write_image(&image, turn.sheet.rules, second, rules, output))
 }

@@ -1,30 +1,31 @@
 use native.Mathlib.Omega.{arith}
 use mathlib.Core.Path.{refl}
-use borrow.Author.Tests.{not-true, not-false}
 use Rattle.xml.specs.Grammar.{◌▸◌, text, gap}
 use Rattle.reader.specs.Words.{named}
 use Rattle.reader.proofs.Computed.{computed}
+use Rattle.reader.proofs.Scans.{given_on}
 use Rattle.reader.proofs.Pieces.{scans-then, scans-stops, scans-fit}
 use Rattle.reader.proofs.attribute.opening.Goals as goal
 
-pub returns-then-not-begin : goal.returns-then-not-begin
+pub returns-in_err-name : goal.returns-in_err-name
 unfolding computed
-returns-then-not-begin c = scans-stops (text (named c.args.w)) (gap ▸ text "=" ▸ gap ▸ text "\"") refl (not-true _ c.if-not-begin.true) c.word_at-begin.ensures
-
-pub word_after-sign-requires : goal.word_after-sign-requires
-unfolding computed
-word_after-sign-requires c = (scans-fit (text (named c.args.w)) (not-false _ c.if-not-begin.false) c.word_at-begin.ensures, (omega arith, refl))
-
-pub returns-then-not-sign : goal.returns-then-not-sign
-unfolding computed
-returns-then-not-sign c = scans-then (text (named c.args.w)) (gap ▸ text "=" ▸ gap ▸ text "\"") refl (not-false _ c.if-not-begin.false) c.word_at-begin.ensures
-    (scans-stops (gap ▸ text "=") (gap ▸ text "\"") refl (not-true _ c.if-not-sign.true) c.word_after-sign.ensures)
+returns-in_err-name c = rw (given_on c.from_residual.ensures.1) (scans-stops (text (named c.args.w)) (gap ▸ text "=" ▸ gap ▸ text "\"") refl c.in_err-name.ensures)
 
 pub word_after-requires : goal.word_after-requires
 unfolding computed
-word_after-requires c = (scans-fit (gap ▸ text "=") (not-false _ c.if-not-sign.false) c.word_after-sign.ensures, (omega arith, refl))
+word_after-requires c = (scans-fit (text (named c.args.w)) c.in_ok-name.ensures, (omega arith, refl))
+
+pub returns-in_err-sign : goal.returns-in_err-sign
+unfolding computed
+returns-in_err-sign c = rw (given_on c.from_residual-in_err-sign.ensures.1)
+    (scans-then (text (named c.args.w)) (gap ▸ text "=" ▸ gap ▸ text "\"") refl c.in_ok-name.ensures
+    (scans-stops (gap ▸ text "=") (gap ▸ text "\"") refl c.in_err-sign.ensures))
+
+pub word_after-requires-2 : goal.word_after-requires-2
+unfolding computed
+word_after-requires-2 c = (scans-fit (gap ▸ text "=") c.in_ok-sign.ensures, (omega arith, refl))
 
 pub returns : goal.returns
 unfolding computed
-returns c = scans-then (text (named c.args.w)) (gap ▸ text "=" ▸ gap ▸ text "\"") refl (not-false _ c.if-not-begin.false) c.word_at-begin.ensures
-    (scans-then (gap ▸ text "=") (gap ▸ text "\"") refl (not-false _ c.if-not-sign.false) c.word_after-sign.ensures c.word_after.ensures)
+returns c = scans-then (text (named c.args.w)) (gap ▸ text "=" ▸ gap ▸ text "\"") refl c.in_ok-name.ensures
+    (scans-then (gap ▸ text "=") (gap ▸ text "\"") refl c.in_ok-sign.ensures c.word_after-2.ensures)

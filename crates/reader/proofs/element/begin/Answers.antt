@@ -1,6 +1,7 @@
 use native.Mathlib.Omega.{arith}
-use mathlib.Core.Path.{◌≡◌, refl, sym, ◌∙◌}
-use lib.ListN.{drop, length-drop}
+use mathlib.Core.Path.{◌≡◌, refl, sym, ap, ◌∙◌}
+use Rattle.std.proofs.Common.{max, rules}
+use lib.ListN.{length, drop, length-drop}
 use Rattle.words.specs.Lists.{all_below}
 use Rattle.reader.specs.Table.{elements}
 use Rattle.reader.specs.Begin.{longest}
@@ -18,23 +19,24 @@ overflow_add-result c = let a = c.args in
     let long = length-drop a.at a.text.now in
     omega arith
 
-pub returns-then-n-length_of : goal.returns-then-n-length_of
-returns-then-n-length_of c = let a = c.args in
+pub returns-then-n-word : goal.returns-then-n-word
+returns-then-n-word c = let a = c.args in
     let l = c.loop-c in
     let e = c.share-n.ensures in
-    let whole = c.length_of.ensures in
-    rw e (begins-tag a.s c.requires.1 a.text.now a.at c.requires.0 l.c c.loop-c-test.true (sym e ∙ c.if-n-length_of.true ∙ whole))
+    let whole = ap length c.word.ensures in
+    rw e (begins-tag a.s c.requires.1 a.text.now a.at c.requires.0 l.c c.loop-c-test.true (sym e ∙ c.if-n-word.true ∙ whole))
 
 pub loop-c-preserved : goal.loop-c-preserved
 loop-c-preserved c = let a = c.args in
     let l = c.loop-c in
     let u = drop a.at a.text.now in
     let e = c.share-n.ensures in
-    let test = c.loop-c-test.true in (
+    let test = c.loop-c-test.true in
+    let most : c.max-best.result ≡ max l.best c.share-n.result = search rules in (
       omega arith,
       (
-        c.larger-best.ensures ∙ longest-more a.s u l.c c.share-n.result l.best e l.invariant.1.0,
-        none_more a.s u l.c c.share-n.result l.best e l.invariant.1.1 (λ d. c.if-n-length_of.false (d ∙ sym c.length_of.ensures)),
+        most ∙ longest-more a.s u l.c c.share-n.result l.best e l.invariant.1.0,
+        none_more a.s u l.c c.share-n.result l.best e l.invariant.1.1 (λ d. c.if-n-word.false (d ∙ sym (ap length c.word.ensures))),
       ),
     )
 
@@ -51,4 +53,4 @@ returns c = let a = c.args in
     let l = c.loop-c in
     let end : l.c ≡ elements = omega arith in
     let inv = rw end at l.invariant.1 in
-    rw inv.0 (begins-none a.s c.requires.1 a.text.now a.at c.requires.0 inv.1 0)
+    rw inv.0 (begins-none a.s c.requires.1 a.text.now a.at c.requires.0 inv.1)

@@ -7,6 +7,6 @@ pub returns-then-next_state-lt-NONE : goal.returns-then-next_state-lt-NONE
 unfolding share may_stand
 returns-then-next_state-lt-NONE c = rw (← c.next_state.ensures, lt-ltb _ _ c.if-next_state-lt-NONE.true) c.matched.ensures
 
-pub returns : goal.returns
+pub returns-else-next_state-lt-NONE : goal.returns-else-next_state-lt-NONE
 unfolding share may_stand
-returns c = rw (← c.next_state.ensures, le-ltb _ _ c.if-next_state-lt-NONE.false)
+returns-else-next_state-lt-NONE c = rw (← c.next_state.ensures, le-ltb _ _ c.if-next_state-lt-NONE.false)

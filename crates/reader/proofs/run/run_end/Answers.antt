@@ -1,28 +1,23 @@
-use native.Mathlib.Omega.{arith}
-use mathlib.Core.Path.{sym, ◌∙◌}
+use Prim.Native.Nat.{◌+◌}
+use mathlib.Core.Path.{ap, ◌∙◌}
+use lib.ListN.{drop}
+use Rattle.std.proofs.Common.{rules, tests}
+use Rattle.std.proofs.lemmas.Iterator.{YieldsList-from_slice}
+use Rattle.std.proofs.lemmas.Iterator.Consumers.{count_from_yields_List}
+use Rattle.std.proofs.lemmas.Iterator.Search.{YieldsList-from_take_while}
+use Rattle.std.proofs.lemmas.List.Folds.{length-prefix_len}
+use Rattle.forms.specs.Form.{is_of}
 use Rattle.forms.specs.Code.{kind_of}
-use Rattle.reader.proofs.Counts.{end_more, end-here}
+use Rattle.reader.proofs.Counts.{run-prefix, behind_all}
 use Rattle.reader.proofs.run.run_end.Goals as goal
 
-pub loop-i-init : goal.loop-i-init
-loop-i-init c = (omega arith, omega arith)
-
-pub loop-i-preserved : goal.loop-i-preserved
-loop-i-preserved c =
-    let l = c.loop-i in
+pub returns : goal.returns
+returns c =
     let a = c.args in
-    let test = c.loop-i-test.true in
-    (omega arith, end_more (kind_of a.kind) a.text.now a.at l.i l.invariant.0 l.invariant.1 test (sym c.is_of.ensures ∙ c.if-is_of.true))
-
-pub returns-else-is_of : goal.returns-else-is_of
-returns-else-is_of c =
-    let l = c.loop-i in
-    let a = c.args in
-    end-here (kind_of a.kind) a.text.now a.at l.i l.invariant.0 l.invariant.1 c.requires (λ h. sym c.is_of.ensures ∙ c.if-is_of.false)
-
-pub returns-after-loop-i : goal.returns-after-loop-i
-returns-after-loop-i c =
-    let l = c.loop-i in
-    let a = c.args in
-    let end = c.loop-i-test.false in
-    end-here (kind_of a.kind) a.text.now a.at l.i l.invariant.0 l.invariant.1 c.requires (λ h. absurd (omega arith))
+    let q = kind_of a.kind in
+    let u = drop a.at a.text.now in
+    ap (λ n. a.at + n)
+    (count_from_yields_List c.take_while.result _ c.count.ensures.ran
+    (YieldsList-from_take_while _ (is_of q) (YieldsList-from_slice _ (behind_all c.args.text.now c.args.at (ap (λ s. s.rest.now) c.take_while.ensures.source ∙ c.iter.ensures.rest)))
+    c.take_while.ensures.closure c.take_while.ensures.done (λ x b r k. search (rules, tests)))
+    ∙ length-prefix_len (is_of q) u ∙ run-prefix q u)

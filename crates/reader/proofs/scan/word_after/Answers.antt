@@ -13,6 +13,5 @@ word_at-requires c = let a = c.args in
 pub returns : goal.returns
 returns c = let a = c.args in
     let w = word a.w in
-    let p = rw c.run_end.ensures at c.word_at.ensures in
     scans-many (kind_of a.kind) (bytes w) (λ k. word-apart (kind_of a.kind) w k (word-starts a.w c.requires.1.0) c.requires.1.1)
-    (word-hope w) c.requires.0 p
+    (word-hope w) c.requires.0 (rw c.run_end.ensures at c.word_at.ensures)

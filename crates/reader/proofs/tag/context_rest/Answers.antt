@@ -1,23 +1,23 @@
 use native.Mathlib.Omega.{arith}
 use mathlib.Core.Path.{refl}
-use borrow.Author.Tests.{not-true, not-false}
 use Rattle.forms.specs.Form.{Form}
 use Rattle.xml.specs.Grammar.{◌▸◌, text, gap, context, attribute, spaced}
 use Rattle.reader.proofs.Computed.{computed}
+use Rattle.reader.proofs.Scans.{given_on}
 use Rattle.reader.proofs.Pieces.{scans-then, scans-stops, scans-fit}
 use Rattle.reader.proofs.tag.context_rest.Goals as goal
 
 abbrev front : Form
 front = spaced (attribute "BusinessContext" context)
 
-pub returns-then-not-one : goal.returns-then-not-one
+pub returns-in_err-end : goal.returns-in_err-end
 unfolding computed
-returns-then-not-one c = scans-stops front (gap ▸ text ">") refl (not-true _ c.if-not-one.true) c.context_attribute-one.ensures
+returns-in_err-end c = rw (given_on c.from_residual.ensures.1) (scans-stops front (gap ▸ text ">") refl c.in_err-end.ensures)
 
 pub word_after-requires : goal.word_after-requires
 unfolding computed
-word_after-requires c = (scans-fit front (not-false _ c.if-not-one.false) c.context_attribute-one.ensures, (omega arith, refl))
+word_after-requires c = (scans-fit front c.in_ok-end.ensures, (omega arith, refl))
 
 pub returns : goal.returns
 unfolding computed
-returns c = scans-then front (gap ▸ text ">") refl (not-false _ c.if-not-one.false) c.context_attribute-one.ensures c.word_after.ensures
+returns c = scans-then front (gap ▸ text ">") refl c.in_ok-end.ensures c.word_after.ensures

@@ -19,40 +19,40 @@ operation-told : Told 22 23
 unfolding computed
 operation-told = record { first = omega arith; second = omega arith; first-shows = refl; second-shows = refl; differ = λ e. absurd (omega arith) }
 
-pub returns-then-c-eq2 : goal.returns-then-c-eq2
+pub returns-in-2 : goal.returns-in-2
 unfolding rest
-returns-then-c-eq2 c = rw c.if-c-eq2.true c.context_rest.ensures
+returns-in-2 c = rw c.in-2.is c.context_rest.ensures
+
+pub leaf_rest-requires-in-4 : goal.leaf_rest-requires-in-4
+leaf_rest-requires-in-4 c = (c.requires.0, step-told)
+
+pub returns-in-4 : goal.returns-in-4
+unfolding computed
+returns-in-4 c = rw (rest-step c.args.c (λ h. omega arith)) c.leaf_rest-in-4.ensures
+
+pub returns-in-6 : goal.returns-in-6
+returns-in-6 c = rw (rest-cardinality c.args.c (λ h. omega arith)) c.cardinality_rest.ensures
 
 pub leaf_rest-requires : goal.leaf_rest-requires
-leaf_rest-requires c = (c.requires.0, step-told)
+leaf_rest-requires c = (c.requires.0, role-told)
 
-pub returns-then-c : goal.returns-then-c
-unfolding computed
-returns-then-c c = rw (rest-step _ c.if-c.true) c.leaf_rest.ensures
-
-pub returns-then-c-2 : goal.returns-then-c-2
-returns-then-c-2 c = rw (rest-cardinality _ c.if-c-2.true) c.cardinality_rest.ensures
-
-pub leaf_rest-requires-then-c-eq10 : goal.leaf_rest-requires-then-c-eq10
-leaf_rest-requires-then-c-eq10 c = (c.requires.0, role-told)
-
-pub returns-then-c-eq10 : goal.returns-then-c-eq10
+pub returns-in-10 : goal.returns-in-10
 unfolding rest computed
-returns-then-c-eq10 c = rw c.if-c-eq10.true c.leaf_rest-then-c-eq10.ensures
+returns-in-10 c = rw c.in-10.is c.leaf_rest.ensures
 
-pub leaf_rest-requires-then-c-eq11 : goal.leaf_rest-requires-then-c-eq11
-leaf_rest-requires-then-c-eq11 c = (c.requires.0, operation-told)
+pub leaf_rest-requires-in-11 : goal.leaf_rest-requires-in-11
+leaf_rest-requires-in-11 c = (c.requires.0, operation-told)
 
-pub returns-then-c-eq11 : goal.returns-then-c-eq11
+pub returns-in-11 : goal.returns-in-11
 unfolding rest computed
-returns-then-c-eq11 c = rw c.if-c-eq11.true c.leaf_rest-then-c-eq11.ensures
+returns-in-11 c = rw c.in-11.is c.leaf_rest-in-11.ensures
 
 pub word_after-requires : goal.word_after-requires
 unfolding computed
 word_after-requires c = (c.requires.0, (omega arith, refl))
 
-pub returns : goal.returns
+pub returns-in_default : goal.returns-in_default
 unfolding computed
-returns c = rw
-    (rest_plain _ c.requires.1 c.if-c-eq2.false c.if-c.false c.if-c-2.false c.if-c-eq10.false c.if-c-eq11.false)
+returns-in_default c = rw
+    (rest_plain c.args.c c.requires.1 (λ h. grind arith) (λ h. grind arith) (λ h. grind arith) (λ h. grind arith) (λ h. grind arith) (λ h. grind arith) (λ h. grind arith))
     c.word_after.ensures

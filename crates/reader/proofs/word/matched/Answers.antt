@@ -1,41 +1,24 @@
-use Prim.Native.Nat.{◌<◌}
-use native.Mathlib.Omega.{arith}
-use mathlib.Core.Path.{sym, ◌∙◌}
-use lib.ListN.{length}
-use Rattle.forms.specs.Form.{ascii}
-use Rattle.reader.specs.Words.{words, word}
-use Rattle.reader.proofs.Counts.{common-more, common-here}
-use Rattle.reader.proofs.Letters.{rows, letters, word_fits, word-letter}
+use mathlib.Core.Path.{ap, ◌∙◌}
+use lib.Dec.{eqb}
+use lib.ListN.{drop}
+use Rattle.std.specs.Prelude.{ℕ, zip}
+use Rattle.std.proofs.Common.{rules, tests}
+use Rattle.std.proofs.lemmas.Iterator.{YieldsList-from_slice, YieldsList-from_zip}
+use Rattle.std.proofs.lemmas.Iterator.Consumers.{count_from_yields_List}
+use Rattle.std.proofs.lemmas.Iterator.Search.{YieldsList-from_take_while}
+use Rattle.std.proofs.lemmas.List.Folds.{length-prefix_len}
+use Rattle.reader.specs.Words.{word}
+use Rattle.reader.proofs.Counts.{common-prefix, behind_all}
 use Rattle.reader.proofs.word.matched.Goals as goal
 
-pub returns-then-left-i : goal.returns-then-left-i
-returns-then-left-i c = let l = c.loop-i in
-    let a = c.args in
-    let end = c.if-left-i.true in
-    common-here (word a.w) a.text.now a.at l.i l.invariant (λ h g. absurd (omega arith))
-
-pub overflow_add-w : goal.overflow_add-w
-overflow_add-w c = omega (arith, c.length_of-n.ensures, word_fits _ c.requires.0)
-
-pub bounds-letters-w : goal.bounds-letters-w
-bounds-letters-w c = omega (arith, c.length_of-n.ensures, word_fits _ c.requires.0)
-
-pub returns-then-text-at : goal.returns-then-text-at
-unfolding letters rows words ascii
-returns-then-text-at c = let l = c.loop-i in
-    let a = c.args in
-    common-here (word a.w) a.text.now a.at l.i l.invariant (λ h g e. c.if-text-at.true (e ∙ sym (word-letter a.w c.requires.0 l.i h)))
-
-pub loop-i-preserved : goal.loop-i-preserved
-unfolding letters rows words ascii
-loop-i-preserved c = let l = c.loop-i in
-    let a = c.args in
-    let h : l.i < length (word a.w) = rw c.length_of-n.ensures at c.loop-i-test.true in
-    common-more (word a.w) a.text.now a.at l.i l.invariant h c.if-left-i.false (c.if-text-at.false ∙ word-letter a.w c.requires.0 l.i h)
-
 pub returns : goal.returns
-returns c = let l = c.loop-i in
-    let a = c.args in
-    let n = c.length_of-n.ensures in
-    let end = c.loop-i-test.false in
-    common-here (word a.w) a.text.now a.at l.i l.invariant (λ h g. absurd (omega arith))
+returns c =
+    let same = λ (p : ℕ × ℕ). eqb p.0 p.1 in
+    let u = drop c.args.at c.args.text.now in
+    count_from_yields_List c.take_while.result _ c.count.ensures.ran
+    (YieldsList-from_take_while _ same
+    (YieldsList-from_zip
+    (YieldsList-from_slice _ (behind_all c.args.text.now c.args.at (ap (λ s. s.a.rest.now) c.take_while.ensures.source ∙ ap (λ s. s.rest.now) c.zip.ensures.first ∙ c.iter.ensures.rest)))
+    (YieldsList-from_slice _ (ap (λ s. s.b.rest.now) c.take_while.ensures.source ∙ c.zip.ensures.second.0 ∙ c.word.ensures)))
+    c.take_while.ensures.closure c.take_while.ensures.done (λ x b r k. search (rules, tests)))
+    ∙ length-prefix_len same (zip u (word c.args.w)) ∙ common-prefix (word c.args.w) u
