@@ -1,4 +1,5 @@
 pub mod Spans
+pub mod Places
 pub mod Pieces
 pub mod Squeezing
 pub mod Digits

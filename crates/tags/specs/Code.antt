@@ -1,6 +1,7 @@
 -- What the values of the code stand for.
 -- Assumes nothing.
 use Rattle.std.specs.Prelude.{ℕ, ◌+◌, ◌≤◌, ◌≡◌, List, length}
+use Rattle.fields.specs.Code.{exclusion_code}
 use Rattle.xml.specs.Tags as said
 use Rattle.xml.specs.Tags.{squeezed}
 use Rattle.tags.specs.Cut.{span, until, past}
@@ -30,7 +31,7 @@ tag_at t StartSet = said.start_set
 tag_at t EndSet = said.end_set
 tag_at t (StartRule c) = said.start_rule (value_at t c)
 tag_at t EndRule = said.end_rule
-tag_at t (StartExclusion k d) = said.start_exclusion k (value_at t d)
+tag_at t (StartExclusion k d) = said.start_exclusion (exclusion_code k) (value_at t d)
 tag_at t EndExclusion = said.end_exclusion
 tag_at t (Role v) = said.role (value_at t v)
 tag_at t (Privilege p o u) = privilege_as p (value_at t o) (value_at t u)

@@ -1,7 +1,7 @@
 -- Which of the rows a tag's beginning is.
 -- Assumes nothing.
-use Rattle.std.specs.Prelude.{ℕ, suc, cond, length, get_or, take, replicate}
-use mathlib.Core.List.{List, [], ◌∷◌, ◌++◌, flatten, map}
+use Rattle.std.specs.Prelude.{ℕ, suc, cond, get_or}
+use mathlib.Core.List.{List, [], ◌∷◌, map}
 use Rattle.words.specs.Lists.{same_list}
 use Rattle.forms.specs.Form.{ascii}
 use Rattle.xml.specs.Tags.{Tag, Row, rows, other}
@@ -20,10 +20,6 @@ beginnings = map beginning_of (rows [] [])
 
 abbrev pub beginning : ℕ → List ℕ
 beginning k = get_or beginnings k []
-
--- the table of the code: each beginning filled up with dots to 27 bytes, and its length
-unfoldable pub row_table : List ℕ
-row_table = flatten (map (λ b. take 27 (b ++ replicate 27 46) ++ length b ∷ []) beginnings)
 
 -- the row that begins so; 16 if none does
 abbrev pub row_of : List ℕ → ℕ

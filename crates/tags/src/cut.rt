@@ -16,12 +16,8 @@ pub fn until(text: &[u8], from: usize, to: usize, b: u8) -> usize
     requires { (from ≤ to) × (to ≤ length text.now) }
     ensures { (result ≡ from + bytes_until b (span text.now from to)) × (from ≤ result) × (result ≤ to) }
 {
-    for i in from..to {
-        if text[i] == b {
-            return i;
-        }
-    }
-    to
+    let s = &text[from..to];
+    from + s.iter().position(|x| *x == b).unwrap_or(s.len())
 }
 
 // The byte behind one, or the end.
@@ -29,10 +25,7 @@ fn past(at: usize, to: usize) -> usize
     requires { at ≤ to }
     ensures { result ≡ behind at to }
 {
-    if at < to {
-        return at + 1;
-    }
-    to
+    if at < to { at + 1 } else { to }
 }
 
 // The piece behind the b at a byte, up to the next b; at the end an empty one.
@@ -66,7 +59,6 @@ fn add(buffer: &mut [u8], n: usize, b: u8) -> usize
     }
     if n < buffer.len() {
         buffer[n] = b;
-        return n + 1;
     }
     n + 1
 }

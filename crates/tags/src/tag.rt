@@ -8,22 +8,24 @@ ghost use Rattle.tags.specs.Code.{value_at, InText, tag_at, TagIn};
 use crate::cut::{QUOTE, next, until};
 use crate::rows::row_at;
 use crate::span::Span;
+use fields::kind::ExclusionKind;
 
 // What a privilege is there: a rule's first step, its last step, or a member of an exclusion.
-#[derive(Clone, Copy)]
+#[derive(Clone, Copy, Debug, PartialEq, Eq)]
 pub enum Place {
     First,
     Last,
     Member,
 }
 
-#[derive(Clone, Copy)]
+// What a tag says.
+#[derive(Clone, Copy, Debug, PartialEq, Eq)]
 pub enum Tag {
     StartSet,
     EndSet,
     StartRule(Span),
     EndRule,
-    StartExclusion(u8, Span),
+    StartExclusion(ExclusionKind, Span),
     EndExclusion,
     Role(Span),
     Privilege(Place, Span, Span),
@@ -44,9 +46,9 @@ fn said(row: usize, one: Span, two: Span) -> Tag
         5 => Tag::Privilege(Place::First, two, one),
         6 => Tag::Privilege(Place::Last, one, two),
         7 => Tag::Privilege(Place::Last, two, one),
-        8 => Tag::StartExclusion(1, one),
+        8 => Tag::StartExclusion(ExclusionKind::Roles, one),
         9 => Tag::EndExclusion,
-        10 => Tag::StartExclusion(2, one),
+        10 => Tag::StartExclusion(ExclusionKind::Privileges, one),
         11 => Tag::EndExclusion,
         12 => Tag::Role(two),
         13 => Tag::Role(one),

@@ -4,7 +4,7 @@ ghost use Rattle.format.specs.Layout.{block_bytes, most_rules, policy_blocks};
 ghost use Rattle.format.specs.Block.{blocks};
 ghost use Rattle.format.specs.Rule.{Privilege as Given};
 ghost use Rattle.format.specs.Policy.{rule_count};
-ghost use Rattle.fields.specs.Code.{privilege_of as privilege_here};
+ghost use Rattle.fields.specs.Code.{privilege_of as privilege_here, exclusion_code};
 ghost use Rattle.xml.specs.Names.{good_names};
 ghost use Rattle.xml.specs.Tags.{end_set, start_rule, end_rule, start_exclusion, end_exclusion, role};
 ghost use Rattle.xml.specs.Read.{Reading};
@@ -18,6 +18,7 @@ use crate::sheet::{Sheet, Turn};
 use drafts::exclusion::{add_privilege, add_role, end_exclusion, start_exclusion};
 use drafts::kept::keep_rule;
 use drafts::rule::{end_rule, set_first, set_last, start_rule};
+use fields::kind::ExclusionKind;
 use fields::layout::{BLOCK_BYTES, HIGHEST_ROLE, MOST_RULES, POLICY_BLOCKS};
 use fields::privilege::Privilege;
 use tags::number::cardinality;
@@ -97,12 +98,12 @@ pub fn take_rule_end(list: &[u8], text: &[u8], d: &mut [u8], image: &mut [u8], s
 }
 
 // An exclusion begins.
-pub fn take_exclusion_start(kind: u8, text: &[u8], m: Span, x: &mut [u8], sheet: Sheet) -> Turn
+pub fn take_exclusion_start(kind: ExclusionKind, text: &[u8], m: Span, x: &mut [u8], sheet: Sheet) -> Turn
     requires in_text { InText text.now m }
     requires x_len { length x.old ≡ block_bytes }
-    ensures { (l second : List ℕ) (room : ℕ) (s : Reading) (d image : List ℕ) → Stands text.now s x.old d image sheet → Turned text.now l second room s (start_exclusion kind (value_at text.now m)) x.new d image result }
+    ensures { (l second : List ℕ) (room : ℕ) (s : Reading) (d image : List ℕ) → Stands text.now s x.old d image sheet → Turned text.now l second room s (start_exclusion (exclusion_code kind) (value_at text.now m)) x.new d image result }
 {
-    start_exclusion(x, kind, cardinality(text, m.from, m.to));
+    start_exclusion(x, kind.code(), cardinality(text, m.from, m.to));
     Turn { fault: 0, sheet }
 }
 

@@ -1,24 +1,22 @@
 use native.Mathlib.Omega.{arith}
-use mathlib.Core.Path.{◌≡◌, refl}
-use Rattle.tags.proofs.Spans.{until-here, until-later, until_none}
+use mathlib.Core.Path.{sym, ◌∙◌}
+use borrow.Author.Tests.{tests}
+use lib.Dec.{eqb}
+use Rattle.std.proofs.Common.{rules}
+use Rattle.std.proofs.lemmas.Iterator.{YieldsList-from_slice}
+use Rattle.std.proofs.lemmas.Iterator.Search.{position_from_yields_List}
+use Rattle.tags.specs.Cut.{span}
+use Rattle.tags.proofs.Spans.{span-length}
+use Rattle.tags.proofs.Pieces.{until-within}
+use Rattle.tags.proofs.Places.{found_or-length, until-position}
 use Rattle.tags.proofs.cut.until.Goals as goal
-
-pub loop-i-init : goal.loop-i-init
-loop-i-init c = (omega arith, omega arith, refl)
-
-pub returns-then-text-i : goal.returns-then-text-i
-returns-then-text-i c =
-    let a = c.args in
-    (omega (arith, until-here a.b a.text.now c.loop-i.i a.to (omega arith) (omega arith) c.if-text-i.true), omega arith, omega arith)
-
-pub loop-i-preserved : goal.loop-i-preserved
-loop-i-preserved c =
-    let a = c.args in
-    (omega arith, omega arith, omega (arith, until-later a.b a.text.now c.loop-i.i a.to (omega arith) (omega arith) c.if-text-i.false))
 
 pub returns : goal.returns
 returns c =
     let a = c.args in
-    let e : c.loop-i.i ≡ a.to = omega arith in
-    let inv = rw e at c.loop-i.invariant.2 in
-    (omega (arith, until_none a.b a.text.now a.to), omega arith, omega arith)
+    let s = span a.text.now a.from a.to in
+    let found = position_from_yields_List (λ x. eqb x a.b) _ _ _ c.position.ensures.ran (YieldsList-from_slice s cc) (λ x b q k. search (rules, tests)) in
+    let e = c.unwrap_or.ensures ∙ found_or-length (λ x. eqb x a.b) s found ∙ sym (until-position a.b s) in
+    let few = until-within a.b s in
+    let long = span-length a.text.now a.from a.to (omega arith) in
+    (omega arith, omega arith, omega arith)

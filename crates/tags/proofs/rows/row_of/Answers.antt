@@ -1,35 +1,27 @@
-use native.Mathlib.Omega.{arith}
-use mathlib.Core.Path.{◌≡◌, refl, sym, ◌∙◌}
-use mathlib.Core.List.{flatten}
-use lib.ListN.{length, take}
+use mathlib.Core.Path.{◌≡◌, refl, ap, ◌∙◌}
+use mathlib.Core.List.{map}
+use lib.ListN.{length}
+use Rattle.std.proofs.Common.{rules}
+use Rattle.std.specs.Slice.Iter.{iter_rest}
+use Rattle.std.proofs.lemmas.Iterator.{YieldsList-from_slice}
+use Rattle.std.proofs.lemmas.Iterator.Search.{position_from_yields_List}
+use Rattle.words.specs.Lists.{same_list}
 use Rattle.forms.specs.Form.{ascii}
 use Rattle.xml.specs.Tags.{rows}
-use Rattle.tags.specs.Rows.{beginnings, row_table}
-use Rattle.tags.proofs.RowTable.{sixteen}
-use Rattle.tags.proofs.RowLaws.{place_here, place-later, place_end}
+use Rattle.tags.specs.Rows.{place_of, beginnings}
+use Rattle.tags.proofs.Places.{found_or-length, place_in, compared}
 use Rattle.tags.proofs.rows.row_of.Goals as goal
 
-pub loop-k-init : goal.loop-k-init
-unfolding row_table flatten beginnings rows ascii
-loop-k-init c = (omega arith, refl, omega arith)
-
-pub returns-then-is_row : goal.returns-then-is_row
-returns-then-is_row c =
-    let a = c.args in
-    let is = sym c.is_row.ensures ∙ c.if-is_row.true in
-    let here = place_here (take a.n a.head.now) beginnings c.loop-k.k (rw sixteen (omega arith)) is in
-    omega arith
-
-pub loop-k-preserved : goal.loop-k-preserved
-loop-k-preserved c =
-    let a = c.args in
-    let is = sym c.is_row.ensures ∙ c.if-is_row.false in
-    let later = place-later (take a.n a.head.now) beginnings c.loop-k.k (rw sixteen (omega arith)) is in
-    (omega arith, c.loop-k.invariant.1, omega arith)
-
 pub returns : goal.returns
+unfolding beginnings rows ascii
 returns c =
-    let a = c.args in
-    let e : c.loop-k.k ≡ length beginnings = omega (arith, sixteen) in
-    let inv = rw e at c.loop-k.invariant.2 in
-    omega (arith, sixteen, place_end (take a.n a.head.now) beginnings)
+    let head = c.args.head.now in
+    let rs = iter_rest c.iter.result in
+    let found =
+    position_from_yields_List (λ r. same_list head r.now) _ _ c.position.result c.position.ensures.ran (YieldsList-from_slice rs refl) (λ x b q k. search (rules, compared)) in
+    let sixteen : length rs ≡ 16 = rw c.iter.ensures.rest in
+    let all : map (λ r. r.now) rs ≡ beginnings = rw c.iter.ensures.rest in
+    c.unwrap_or.ensures
+    ∙ rw (← sixteen) (found_or-length (λ r. same_list head r.now) rs found)
+    ∙ place_in head rs
+    ∙ ap (place_of head) all
