@@ -24,9 +24,9 @@ converted_of (Ok n) = accept n
 converted_of (Err r) = refuse (text_refusal_of r)
 
 -- the answer of a call that counts the blocks which it writes
-abbrev pub answer_of : {A : Type 0} → Result (Counted A) Refusal → Result A Refusal
-answer_of (Ok c) = Ok c.answer
-answer_of (Err r) = Err r
+abbrev pub counted_of : {A : Type 0} → Result (Counted A) Refusal → Result A Refusal
+counted_of (Ok c) = Ok c.answer
+counted_of (Err r) = Err r
 
 -- and how many they are: "a refusal alters nothing"
 abbrev pub written_of : {A : Type 0} → Result (Counted A) Refusal → ℕ

@@ -4,9 +4,9 @@ use Prim.Native.Nat.{ℕ, ◌+◌, ◌-◌, ◌≤◌}
 use native.Mathlib.Omega.{arith}
 use mathlib.Core.Path.{◌≡◌, refl, sym, ap, ap₂, ◌∙◌}
 use mathlib.Core.Bool.{Bool, true, false, cond, not}
-use mathlib.Core.List.{List, [], ◌∷◌, ◌++◌, map}
+use mathlib.Core.List.{List, [], ◌∷◌, ◌++◌, map, append-nil}
 use lib.Bits.{and_zero_r, bit_and}
-use lib.ListN.{length}
+use lib.ListN.{length, length-append}
 use lib.Dec.{eqb}
 use borrow.Author.Tests.{eq-eqb, ne_eqb}
 use Rattle.words.specs.Lists.{tab, keep}
@@ -103,3 +103,17 @@ module _ (e : Each) (q : Request) (ends : ℕ) where
     omega (arith, is),
     left_one r (λ z. some (is ∙ z)) ∙ ap {B = List Record} (λ x. record { request = r.request; marks = x } ∷ []) (sym is),
   )
+
+  -- one record more of a table: it goes, or it stays
+  pub left-count-none : (s : List ℕ) (i : ℕ) → (cleared_by e q ends (record_here s i)).marks ≡ 0
+      → length (left_by e q ends (records_here s (i + 1))) ≡ length (left_by e q ends (records_here s i))
+  left-count-none s i z =
+      ap length (rest_more left-by-one s i ∙ ap (λ (l : List Record). left_by e q ends (records_here s i) ++ l) (left-none (record_here s i) z))
+      ∙ ap length (append-nil (left_by e q ends (records_here s i)))
+
+  pub left-count-one : (s : List ℕ) (i : ℕ) → ((cleared_by e q ends (record_here s i)).marks ≡ 0 → ⊥)
+      → length (left_by e q ends (records_here s (i + 1))) ≡ length (left_by e q ends (records_here s i)) + 1
+  left-count-one s i z =
+      ap length (rest_more left-by-one s i)
+      ∙ length-append (left_by e q ends (records_here s i)) (left_by e q ends (record_here s i ∷ []))
+      ∙ ap (λ (l : List Record). length (left_by e q ends (records_here s i)) + length l) (left_one (record_here s i) z)

@@ -1,9 +1,10 @@
 -- The state of a pass that settles records one after the other, whatever is to be left of them.
 -- Assumes nothing.
-use Rattle.std.specs.Prelude.{ℕ, ◌<◌, ◌≤◌, ◌≡◌, List, [], ◌∷◌, ◌++◌}
+use Rattle.std.specs.Prelude.{ℕ, ◌<◌, ◌≤◌, ◌≡◌, List, [], ◌∷◌, ◌++◌, Option, Some, None}
 use Rattle.format.specs.Table.{Record}
 use Rattle.format.specs.Records.{record_here, records_here}
 use Rattle.fields.specs.declared.blocks.BlockSet.{BlockSet}
+use Rattle.fields.specs.declared.sets.RuleSet.{RuleSet}
 use Rattle.table_write.specs.Writing.{Placed}
 
 -- what is left of a list is what is left of each of its records
@@ -21,3 +22,8 @@ pub record Settling (rest : List Record → List Record) (s : List ℕ) (i : ℕ
 -- the records of s from one place up to another stay as they are
 abbrev pub StayIn : (List Record → List Record) → List ℕ → ℕ → ℕ → Type 0
 StayIn rest s from to = (k : ℕ) → from ≤ k → k < to → rest (record_here s k ∷ []) ≡ record_here s k ∷ []
+
+-- what is left of a record by itself: nothing, or the record with these marks, which it had
+abbrev pub LeftIs : (List Record → List Record) → Record → Option RuleSet → Type 0
+LeftIs rest r None = rest (r ∷ []) ≡ []
+LeftIs rest r (Some m) = (m.0 ≤ r.marks) × (rest (r ∷ []) ≡ record { request = r.request; marks = m.0 } ∷ [])

@@ -1,11 +1,11 @@
 // What a grant takes from the marks of records: the rules that end, and where their records are.
-ghost use Rattle.std.specs.Prelude.{◌≡◌, false, ℕ, ◌+◌, ◌/◌, ◌<◌, ◌≤◌, length};
-ghost use Rattle.format.specs.Layout.{request_bytes, record_bytes, block_records, table_blocks, capacity};
+ghost use Rattle.std.specs.Prelude.{◌≡◌, ◌+◌, ◌*◌, ◌<◌, ◌≤◌, min, length};
+ghost use Rattle.format.specs.Layout.{record_bytes, block_records, table_blocks};
 ghost use Rattle.format.specs.Records.{record_from};
-ghost use Rattle.fields.specs.Code.{has_block};
 ghost use Rattle.clearing.specs.Cleared.{cleared_by};
 
 use fields::blocks::BlockSet;
+use fields::layout::REQUEST_BYTES;
 use fields::request;
 use fields::sets::RuleSet;
 use fields::tables::Blocks;
@@ -20,32 +20,17 @@ pub struct Ending {
 }
 
 // The marks that the record at a byte keeps: it loses those of the rules that end in its run place.
-pub fn cleared_marks(ending: Ending, q: &[u8], table: &[u8], at: usize) -> RuleSet
-    requires { (length q.now ≡ request_bytes) × (at + record_bytes ≤ length table.now) }
+pub fn cleared_marks(ending: Ending, q: &[u8; REQUEST_BYTES], table: &[u8], at: usize) -> RuleSet
+    requires { at + record_bytes ≤ length table.now }
     ensures { result.0 ≡ (cleared_by ending.each q.now ending.rules.0 (record_from table.now at)).marks }
 {
     request::marks(table, at).without(together_of(ending.each, ending.rules, q, table, at))
 }
 
-// The place behind the block of place i, or n.
-pub fn block_end(i: usize, n: usize) -> usize
-    requires { (i < n) × (n ≤ capacity table_blocks) }
-    ensures { (i < result) × (result ≤ n) × ((k : ℕ) → i ≤ k → k < result → k / block_records ≡ i / block_records) }
+// The place behind those of block k, of n places.
+pub fn block_end(k: usize, n: usize) -> usize
+    requires { k < table_blocks }
+    ensures { result ≡ min n (block_records * (k + 1)) }
 {
-    let end = Blocks::RECORDS * (i / Blocks::RECORDS) + Blocks::RECORDS;
-    if end < n {
-        return end;
-    }
-    n
-}
-
-// From place i on, the places of a block outside the set, below n; or none, if its block is in the set. Returns the place behind them.
-pub fn outside_to(near: BlockSet, i: usize, n: usize) -> usize
-    requires { (i < n) × (n ≤ capacity table_blocks) }
-    ensures { (i ≤ result) × (result ≤ n) × ((k : ℕ) → i ≤ k → k < result → has_block near (k / block_records) ≡ false) }
-{
-    if near.has(i / Blocks::RECORDS) {
-        return i;
-    }
-    block_end(i, n)
+    n.min(Blocks::RECORDS * (k + 1))
 }

@@ -1,68 +1,66 @@
 // How many records the new table holds, and whether there is room for them: those that keep a mark are counted only where they have to be.
-ghost use Rattle.std.specs.Prelude.{◌≡◌, [], ◌∷◌, ◌<◌, ◌≤◌, length, leb};
-ghost use Rattle.format.specs.Layout.{request_bytes};
-ghost use Rattle.format.specs.Records.{record_here, records_here};
+ghost use Rattle.std.specs.Prelude.{◌≡◌, ◌+◌, ◌≤◌, length, leb};
+ghost use Rattle.format.specs.Records.{records_here};
 ghost use Rattle.fields.specs.Code.{HasRoom};
-ghost use Rattle.matching.specs.Masks.{NearOf};
-ghost use Rattle.clearing.specs.Cleared.{left_by, after_by, AllMarked};
+ghost use Rattle.clearing.specs.Cleared.{left_of, after_of, Ready};
 
-use crate::ending::{Ending, cleared_marks, outside_to};
+use crate::ending::{Ending, block_end, cleared_marks};
+use fields::layout::REQUEST_BYTES;
 use fields::sets::RuleSet;
-use fields::tables::record_start;
+use fields::tables::{Blocks, record_start};
 
-// 1 if record i keeps a mark, and else 0.
-fn stays(ending: Ending, q: &[u8], table: &[u8], n: usize, i: usize) -> usize
-    requires q_len { (length q.now ≡ request_bytes) × (i < n) }
-    requires has_room { HasRoom table.now n }
-    ensures { (result ≡ length (left_by ending.each q.now ending.rules.0 (record_here table.now i ∷ []))) × (result ≤ 1) }
-{
-    if cleared_marks(ending, q, table, record_start(i)).is_empty() {
-        return 0;
-    }
-    1
-}
-
-// How many of the n records keep a mark, counted one by one where one may lose some.
-fn count_kept(ending: Ending, q: &[u8], table: &[u8], n: usize) -> usize
-    requires q_len { length q.now ≡ request_bytes }
-    requires has_room { (HasRoom table.now n) × (AllMarked table.now n) }
-    requires near_of { NearOf ending.each ending.rules.0 q.now table.now n ending.near }
-    ensures { result ≡ length (left_by ending.each q.now ending.rules.0 (records_here table.now n)) }
+// How many of the records from one place up to another keep a mark.
+fn kept_between(
+    ending: Ending,
+    q: &[u8; REQUEST_BYTES],
+    table: &[u8],
+    from: usize,
+    to: usize,
+) -> usize
+    requires { (from ≤ to) × (HasRoom table.now to) }
+    ensures { length (left_of ending q.now (records_here table.now to)) ≡ length (left_of ending q.now (records_here table.now from)) + result }
 {
     let mut count = 0usize;
-    let mut i = 0usize;
-    while i < n {
-        let next = outside_to(ending.near, i, n);
-        if i < next {
-            count += next - i;
-            i = next;
+    for i in from..to {
+        if cleared_marks(ending, q, table, record_start(i)).is_empty() {
             continue;
         }
-        count += stays(ending, q, table, n, i);
-        i += 1;
+        count += 1;
     }
     count
 }
 
-// The same, without counting where no rule ends: all of them do then.
-fn kept(ending: Ending, q: &[u8], table: &[u8], n: usize) -> usize
-    requires q_len { length q.now ≡ request_bytes }
-    requires has_room { (HasRoom table.now n) × (AllMarked table.now n) }
-    requires near_of { NearOf ending.each ending.rules.0 q.now table.now n ending.near }
-    ensures { result ≡ length (left_by ending.each q.now ending.rules.0 (records_here table.now n)) }
+// How many of the n records keep a mark. Where no rule ends all of them do; else they are counted block by block, and one by one where one may lose some.
+fn kept(ending: Ending, q: &[u8; REQUEST_BYTES], table: &[u8], n: usize) -> usize
+    requires { Ready ending q.now table.now n }
+    ensures { result ≡ length (left_of ending q.now (records_here table.now n)) }
 {
     if ending.rules.is_empty() {
         return n;
     }
-    count_kept(ending, q, table, n)
+    let mut count = 0usize;
+    for k in 0..n.div_ceil(Blocks::RECORDS) {
+        let from = Blocks::RECORDS * k;
+        let to = block_end(k, n);
+        if ending.near.has(k) {
+            count += kept_between(ending, q, table, from, to);
+        } else {
+            count += to - from;
+        }
+    }
+    count
 }
 
 // How many records the table then holds: those that are left, and the request if it has a mark.
-pub fn held_after(ending: Ending, gives: RuleSet, q: &[u8], table: &[u8], n: usize) -> usize
-    requires q_len { length q.now ≡ request_bytes }
-    requires has_room { (HasRoom table.now n) × (AllMarked table.now n) }
-    requires near_of { NearOf ending.each ending.rules.0 q.now table.now n ending.near }
-    ensures { result ≡ length (after_by ending.each q.now ending.rules.0 gives.0 (records_here table.now n)) }
+pub fn held_after(
+    ending: Ending,
+    gives: RuleSet,
+    q: &[u8; REQUEST_BYTES],
+    table: &[u8],
+    n: usize,
+) -> usize
+    requires { Ready ending q.now table.now n }
+    ensures { result ≡ length (after_of ending gives q.now (records_here table.now n)) }
 {
     let left = kept(ending, q, table, n);
     if gives.is_empty() {
@@ -75,15 +73,14 @@ pub fn held_after(ending: Ending, gives: RuleSet, q: &[u8], table: &[u8], n: usi
 pub fn has_room(
     ending: Ending,
     gives: RuleSet,
-    q: &[u8],
+    q: &[u8; REQUEST_BYTES],
     table: &[u8],
     n: usize,
     room: usize,
 ) -> bool
-    requires q_len { (length q.now ≡ request_bytes) × (n ≤ room) }
-    requires has_room { (HasRoom table.now n) × (AllMarked table.now n) }
-    requires near_of { NearOf ending.each ending.rules.0 q.now table.now n ending.near }
-    ensures { result ≡ leb (length (after_by ending.each q.now ending.rules.0 gives.0 (records_here table.now n))) room }
+    requires ready { Ready ending q.now table.now n }
+    requires n_le_room { n ≤ room }
+    ensures { result ≡ leb (length (after_of ending gives q.now (records_here table.now n))) room }
 {
     if gives.is_empty() {
         return true;

@@ -1,19 +1,32 @@
-// What a grant leaves of a table's records: marks cleared, and records without marks gone; "the rest keep their order".
+// What is left of a table's records, in one pass: some go, some lose marks, and "the rest keep their order". What a record becomes is compared with what
+// stood at its place before anything there is overwritten.
 ghost use Rattle.std.specs.Prelude.{◌≡◌, List, ℕ, ◌+◌, ◌≤◌, length};
-ghost use Rattle.format.specs.Layout.{request_bytes};
+ghost use Rattle.format.specs.Layout.{record_bytes};
 ghost use Rattle.format.specs.Table.{Record};
-ghost use Rattle.format.specs.Records.{records_here};
+ghost use Rattle.format.specs.Records.{record_from, records_here};
 ghost use Rattle.fields.specs.Code.{HasRoom};
-ghost use Rattle.matching.specs.Masks.{NearOf};
 ghost use Rattle.table_write.specs.Writing.{Placed};
-ghost use Rattle.clearing.specs.Cleared.{left_by, AllMarked};
-ghost use Rattle.clearing.specs.Settling.{Settling, StayIn};
+ghost use Rattle.clearing.specs.Cleared.{left_of, Ready};
+ghost use Rattle.clearing.specs.Settling.{Settling, StayIn, LeftIs};
 
-use crate::ending::{Ending, block_end, cleared_marks, outside_to};
+use crate::ending::{Ending, block_end, cleared_marks};
 use fields::blocks::BlockSet;
+use fields::layout::REQUEST_BYTES;
 use fields::request;
-use fields::tables::record_start;
+use fields::sets::RuleSet;
+use fields::tables::{Blocks, record_start};
 use table_write::places::{place, remark};
+
+// What becomes of the records of a table, of each by itself.
+pub trait Fate {
+    // What is left of a list of them.
+    ghost left: { Self → List Record → List Record };
+
+    // The marks that the record at a byte keeps, or none if it goes.
+    fn marks_left(&self, table: &[u8], at: usize) -> Option<RuleSet>
+        requires { at + record_bytes ≤ length table.now }
+        ensures { LeftIs (left self.now) (record_from table.now at) result };
+}
 
 // How many records are held, and the blocks in which another record stands than before.
 #[derive(Clone, Copy)]
@@ -22,17 +35,16 @@ pub struct Settled {
     pub changed: BlockSet,
 }
 
-// Record i with what is left of its marks: it goes if that is nothing, and else is put behind those before it that have stayed.
-fn settle_record(ending: Ending, q: &[u8], table: &mut [u8], i: usize, left: Settled) -> Settled
-    requires { (length q.now ≡ request_bytes) × (left.held ≤ i) × (HasRoom table.old (i + 1)) }
-    ensures { ((s : List ℕ) → Settling (left_by ending.each q.now ending.rules.0) s i table.old left.held left.changed → Settling (left_by ending.each q.now ending.rules.0) s (i + 1) table.new result.held result.changed) × (result.held ≤ i + 1) }
+// Record i with what is left of its marks: it goes, or it is put behind those before it that have stayed.
+fn settle_record<F: Fate>(fate: &F, table: &mut [u8], i: usize, left: Settled) -> Settled
+    requires { (left.held ≤ i) × (HasRoom table.old (i + 1)) }
+    ensures { ((s : List ℕ) → Settling (F.left fate.now) s i table.old left.held left.changed → Settling (F.left fate.now) s (i + 1) table.new result.held result.changed) × (result.held ≤ i + 1) }
 {
     let held = left.held;
     let changed = left.changed;
-    let marks = cleared_marks(ending, q, table, record_start(i));
-    if marks.is_empty() {
+    let Some(marks) = fate.marks_left(table, record_start(i)) else {
         return left;
-    }
+    };
     let next = held + 1;
     if held == i {
         return Settled {
@@ -47,26 +59,25 @@ fn settle_record(ending: Ending, q: &[u8], table: &mut [u8], i: usize, left: Set
 }
 
 // The records from one place up to another, one after the other.
-fn settle_records(
-    ending: Ending,
-    q: &[u8],
+pub fn settle_records<F: Fate>(
+    fate: &F,
     table: &mut [u8],
     from: usize,
     to: usize,
     left: Settled,
 ) -> Settled
-    requires { (length q.now ≡ request_bytes) × (left.held ≤ from) × (from ≤ to) × (HasRoom table.old to) }
-    ensures { ((s : List ℕ) → Settling (left_by ending.each q.now ending.rules.0) s from table.old left.held left.changed → Settling (left_by ending.each q.now ending.rules.0) s to table.new result.held result.changed) × (result.held ≤ to) }
+    requires { (left.held ≤ from) × (from ≤ to) × (HasRoom table.old to) }
+    ensures { ((s : List ℕ) → Settling (F.left fate.now) s from table.old left.held left.changed → Settling (F.left fate.now) s to table.new result.held result.changed) × (result.held ≤ to) }
 {
     let mut settled = left;
     for i in from..to {
-        settled = settle_record(ending, q, table, i, settled);
+        settled = settle_record(fate, table, i, settled);
     }
     settled
 }
 
 // Records that stay as they are, from one place up to another: they are put behind those before them that have stayed, if one has gone.
-pub fn pass_records(table: &mut [u8], from: usize, to: usize, left: Settled) -> Settled
+fn pass_records(table: &mut [u8], from: usize, to: usize, left: Settled) -> Settled
     requires { (left.held ≤ from) × (from ≤ to) × (HasRoom table.old to) }
     ensures { ((rest : List Record → List Record) (s : List ℕ) → StayIn rest s from to → Settling rest s from table.old left.held left.changed → Settling rest s to table.new result.held result.changed) × (result.held ≤ to) }
 {
@@ -83,13 +94,28 @@ pub fn pass_records(table: &mut [u8], from: usize, to: usize, left: Settled) -> 
     Settled { held, changed }
 }
 
-// Clears the marks of the rules that end, and moves the records that keep a mark to the front, in one pass: what a record becomes is compared with
-// what stood at its place before anything there is overwritten. Marks are looked at only in blocks where a record may lose one.
-pub fn settle(ending: Ending, q: &[u8], table: &mut [u8], n: usize) -> Settled
-    requires q_len { length q.now ≡ request_bytes }
-    requires has_room { (HasRoom table.old n) × (AllMarked table.old n) }
-    requires near_of { NearOf ending.each ending.rules.0 q.now table.old n ending.near }
-    ensures { (records_here table.new result.held ≡ left_by ending.each q.now ending.rules.0 (records_here table.old n)) × (Placed table.old table.new result.held result.changed) }
+// At a grant a record loses the marks of the rules that end in its run place, and goes with the last.
+#[derive(Clone, Copy)]
+struct Clearing<'a> {
+    ending: Ending,
+    q: &'a [u8; REQUEST_BYTES],
+}
+
+impl Fate for Clearing<'_> {
+    ghost left = { λ c. left_of c.ending c.q.now };
+
+    fn marks_left(&self, table: &[u8], at: usize) -> Option<RuleSet> {
+        let q = self.q;
+        let marks = cleared_marks(self.ending, q, table, at);
+        if marks.is_empty() { None } else { Some(marks) }
+    }
+}
+
+// Clears the marks of the rules that end, and moves the records that keep a mark to the front. Marks are looked at only in blocks where a record may lose
+// one.
+pub fn settle(ending: Ending, q: &[u8; REQUEST_BYTES], table: &mut [u8], n: usize) -> Settled
+    requires { Ready ending q.now table.old n }
+    ensures { (records_here table.new result.held ≡ left_of ending q.now (records_here table.old n)) × (Placed table.old table.new result.held result.changed) }
 {
     let none = BlockSet::none();
     if ending.rules.is_empty() {
@@ -98,21 +124,19 @@ pub fn settle(ending: Ending, q: &[u8], table: &mut [u8], n: usize) -> Settled
             changed: none,
         };
     }
+    let clearing = Clearing { ending, q };
     let mut settled = Settled {
         held: 0,
         changed: none,
     };
-    let mut i = 0usize;
-    while i < n {
-        let next = outside_to(ending.near, i, n);
-        if i < next {
-            settled = pass_records(table, i, next, settled);
-            i = next;
-            continue;
+    for k in 0..n.div_ceil(Blocks::RECORDS) {
+        let from = Blocks::RECORDS * k;
+        let to = block_end(k, n);
+        if ending.near.has(k) {
+            settled = settle_records(&clearing, table, from, to, settled);
+        } else {
+            settled = pass_records(table, from, to, settled);
         }
-        let end = block_end(i, n);
-        settled = settle_records(ending, q, table, i, end, settled);
-        i = end;
     }
     settled
 }

@@ -3,51 +3,42 @@ ghost use Rattle.std.specs.Prelude.{◌≡◌};
 ghost use Rattle.judge.specs.Decide.{decide as decide_of};
 ghost use Rattle.judge.specs.Preview.{preview as preview_of};
 ghost use Rattle.judge.specs.Written.{decided_blocks};
-ghost use Rattle.answers.specs.Code.{answer_of, outcome};
+ghost use Rattle.answers.specs.Code.{counted_of, granted_of, outcome, written_of};
 
-use crate::examining::{Examined, examine};
-use crate::reply::reply_of;
-use answers::reply::{Counted, Reply};
+use crate::examining::examine;
+use answers::reply::Counted;
+use format::answer::{Grant, Refusal};
 use update::foreseeing::foresee;
 use update::grant::update;
 
 // Decides one request, and counts the blocks that it writes: just those whose records differ.
-pub fn decide_counted(policy: &[u8], table: &mut [u8], request: &[u8]) -> Counted
-    ensures { (outcome (answer_of result.reply) table.new ≡ decide_of policy.now table.old request.now) × (result.written ≡ decided_blocks policy.now table.old request.now) }
+pub fn decide_counted(
+    policy: &[u8],
+    table: &mut [u8],
+    request: &[u8],
+) -> Result<Counted<Grant>, Refusal>
+    ensures { (outcome (granted_of (counted_of result)) table.new ≡ decide_of policy.now table.old request.now) × (written_of result ≡ decided_blocks policy.now table.old request.now) }
 {
-    let examined = examine(policy, table, request);
-    match examined {
-        Examined::Refused(r) => Counted {
-            reply: Reply::Refused(r),
-            written: 0,
-        },
-        Examined::Passed(p) => {
-            let changed = update(p.stamp, p.ending, p.gives, request, table, p.held);
-            let updated = changed.updated;
-            let written = changed.written;
-            Counted {
-                reply: reply_of(updated),
-                written,
-            }
-        }
-    }
+    let pass = examine(policy, table, request)?;
+    let changed = update(pass.stamp, pass.ending, pass.gives, pass.request, table, pass.held)?;
+    Ok(Counted {
+        answer: changed.grant,
+        written: changed.written,
+    })
 }
 
 // Decides one request. A grant brings the lent table up to date, a refusal leaves every byte.
-pub fn decide(policy: &[u8], table: &mut [u8], request: &[u8]) -> Reply
-    ensures { outcome (answer_of result) table.new ≡ decide_of policy.now table.old request.now }
+pub fn decide(policy: &[u8], table: &mut [u8], request: &[u8]) -> Result<Grant, Refusal>
+    ensures { outcome (granted_of result) table.new ≡ decide_of policy.now table.old request.now }
 {
-    let counted = decide_counted(policy, table, request);
-    counted.reply
+    let counted = decide_counted(policy, table, request)?;
+    Ok(counted.answer)
 }
 
 // What `decide` would answer, every number included. The lent table is only read.
-pub fn preview(policy: &[u8], table: &[u8], request: &[u8]) -> Reply
-    ensures { answer_of result ≡ preview_of policy.now table.now request.now }
+pub fn preview(policy: &[u8], table: &[u8], request: &[u8]) -> Result<Grant, Refusal>
+    ensures { granted_of result ≡ preview_of policy.now table.now request.now }
 {
-    let examined = examine(policy, table, request);
-    match examined {
-        Examined::Refused(r) => Reply::Refused(r),
-        Examined::Passed(p) => reply_of(foresee(p.ending, p.gives, request, table, p.held)),
-    }
+    let pass = examine(policy, table, request)?;
+    foresee(pass.ending, pass.gives, pass.request, table, pass.held)
 }

@@ -4,4 +4,3 @@
 
 pub mod deciding;
 pub mod examining;
-pub mod reply;

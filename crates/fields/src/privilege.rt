@@ -13,7 +13,7 @@ pub struct Privilege {
 }
 
 // A privilege in one number, as its bytes stand: many are compared at once so. Only a privilege makes one.
-#[derive(Clone, Copy)]
+#[derive(Clone, Copy, Debug, PartialEq, Eq)]
 pub struct Packed(pub u32);
 
 // The operation at a byte.

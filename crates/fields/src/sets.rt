@@ -7,7 +7,7 @@ use crate::field::{bit, without};
 use crate::number::Role;
 
 // A set of roles: "role k is bit k - 1".
-#[derive(Clone, Copy)]
+#[derive(Clone, Copy, Debug, PartialEq, Eq)]
 pub struct Roles(pub u32);
 
 impl Roles {
@@ -28,7 +28,7 @@ impl Roles {
 }
 
 // A set of rules: "rule r at bit r - 1", so that the rule of index i, from 0, is bit i. A record's marks are one.
-#[derive(Clone, Copy)]
+#[derive(Clone, Copy, Debug, PartialEq, Eq)]
 pub struct RuleSet(pub u32);
 
 impl RuleSet {

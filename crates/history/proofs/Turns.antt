@@ -1,17 +1,17 @@
--- What a pass over records finds, with one record more; and the words of a past, with one request more.
+-- What a pass over records finds, with one record more; and a past, with one deed more.
 -- Assumes nothing.
-use Prim.Native.Nat.{ℕ, ◌+◌, ◌*◌, ◌/◌, ◌<◌, ◌≤◌}
+use Prim.Native.Nat.{ℕ, ◌+◌, ◌/◌, ◌<◌, ◌≤◌}
 use native.Mathlib.Decide.{dec_lt}
 use native.Mathlib.Numerals.{add-one}
 use native.Mathlib.Omega.{arith}
 use mathlib.Core.Path.{◌≡◌, refl, sym, ap, ap₂, ◌∙◌}
-use mathlib.Core.Bool.{Bool, true, false, cond, not, ◌&&◌, ◌||◌, false≢true}
-use mathlib.Core.List.{List, [], ◌∷◌, ◌++◌, append-nil, flatten, map}
+use mathlib.Core.Bool.{Bool, true, false, cond, not, ◌&&◌, ◌||◌}
+use mathlib.Core.List.{List, [], ◌∷◌, ◌++◌, append-nil, map}
 use borrow.Author.Tests.{eqb-true}
 use lib.Bits.{bit_and, bit_or, or_zero_l, or_zero_r}
 use lib.Dec.{eqb}
-use lib.ListN.{length, get_or, take, drop, set, length-append, length-set}
-use lib.Seq.{sets, sets-eq, take_at, take-suc, take-suc-set, take-length, length-take-le, length-sets}
+use lib.ListN.{length, get_or, take, set, length-set}
+use lib.Seq.{take-suc, take-suc-set, take-length, length-take-le}
 use Rattle.words.specs.Lists.{keep, tab}
 use Rattle.words.specs.Bytes.{part, bit}
 use Rattle.word_laws.proofs.Keep.{keep-more, map-append}
@@ -19,17 +19,18 @@ use Rattle.word_laws.proofs.Parts.{part-whole}
 use Rattle.word_laws.proofs.BitLaws.{or_assoc}
 use Rattle.word_laws.proofs.Lists.{tab-next}
 use Rattle.format.specs.Layout.{request_bytes, record_bytes, block_records}
-use Rattle.format.specs.Request.{Request, user, roles}
+use Rattle.format.specs.Request.{Request, user}
 use Rattle.format.specs.Table.{Record, marked}
 use Rattle.format.specs.Records.{record_start, record_from, record_here, records_here}
 use Rattle.judge.specs.Tally.{same_user}
-use Rattle.fields.specs.Code.{HasRoom, done_by, packed_of, has_block}
+use Rattle.fields.specs.Code.{HasRoom, has_block}
 use Rattle.matching.specs.declared.masks.Each.{Each}
 use Rattle.matching.specs.Masks.{apart_by, together_by, NearOf}
 use Rattle.matching.proofs.Together.{together-with}
 use Rattle.fields.specs.declared.blocks.BlockSet.{BlockSet}
 use Rattle.fields.proofs.BlockSets.{not-with}
-use Rattle.tally.specs.Code.{words_of, past_words}
+use Rattle.tally.specs.declared.deed.Deed.{Deed}
+use Rattle.tally.specs.Code.{deed_of}
 use Rattle.history.specs.Code.{shared_by, open_by, may_count, found_in, stands_by, past_by}
 
 -- ---- where the records of a table stand
@@ -159,53 +160,36 @@ module _ (e : Each) (rules : ℕ) (q : Request) (s : List ℕ) where
                 (sym (found-more e rules q s k at here ∙ rw (may-count e rules q s k at here shared h u)));
           }
 
-  pub pass-end : {len k n x : ℕ} {near : BlockSet} {c : ℕ} {l : List ℕ} → k ≡ n → Passed e rules q s len k x near c l
-      → (x ≡ open_by e rules q (records_here s n)) × NearOf e rules q s n near × (c ≤ n) × (take c l ≡ found_in e rules q s n) × (length l ≡ len)
-  pass-end f p = rw (← f) (p.opens, p.nears, p.few, p.founds, p.sized)
+  pub pass-end : {len k n x : ℕ} {near : BlockSet} {c : ℕ} {l : List ℕ} → k ≡ n → n ≤ len → Passed e rules q s len k x near c l
+      → (x ≡ open_by e rules q (records_here s n)) × NearOf e rules q s n near × (take c l ≡ found_in e rules q s n) × (length (take c l) ≤ n)
+  pass-end {c} {l} f h p = rw (← f) (p.opens, p.nears, p.founds, omega (arith, length-take-le c l (omega (arith, p.few, p.sized)), p.few))
 
 -- the request at byte 0 is the whole
 pub of-user : (q x : Request) → length q ≡ request_bytes → {u : ℕ} {b r : Bool} → u ≡ user (part q 0 request_bytes) → b ≡ same_user u x → b ≡ r → same_user (user q) x ≡ r
 of-user q x h f g e = ap (λ (u : ℕ). same_user u x) (sym (f ∙ ap user (part-whole q 28 h))) ∙ sym g ∙ e
 
--- ---- a request more
-
-past-snoc : (qs : List Request) (x : Request) → past_words (qs ++ (x ∷ [])) ≡ past_words qs ++ words_of x
-unfolding past_words flatten
-past-snoc [] x = refl
-past-snoc (y ∷ qs) x = ap {B = List ℕ} (λ (l : List ℕ). words_of y ++ l) (past-snoc qs x)
-
-put_two : (l : List ℕ) (c a b : ℕ) → 2 * c + 1 < length l → take (2 * (c + 1)) (sets l (2 * c) (a ∷ b ∷ [])) ≡ take (2 * c) l ++ (a ∷ b ∷ [])
-put_two l c a b h =
-    rw (sets-eq (a ∷ b ∷ []) l (2 * c) (omega arith))
-    (take_at (take (2 * c) l ++ (a ∷ b ∷ [])) (drop (2 * c + 2) l) (2 * (c + 1))
-    (omega (arith, length-append (take (2 * c) l) (a ∷ b ∷ []), length-take-le (2 * c) l (omega arith))))
+-- ---- whether a record counts for a rule
 
 module _ (e : Each) (q : Request) (i : ℕ) (r : Record) where
-  pub stands-unmarked : (b : Bool) → b ≡ marked i r → not b ≡ true → stands_by e q i r ≡ false
+  pub stands : (b a : Bool) → b ≡ marked i r → a ≡ bit i (apart_by e q r.request) → b && not a ≡ stands_by e q i r
   unfolding stands_by
-  stands-unmarked true m h = absurd (false≢true h)
-  stands-unmarked false m h = rw (← m)
-
-  pub stands-marked : (b : Bool) → b ≡ marked i r → not b ≡ false → stands_by e q i r ≡ not (bit i (apart_by e q r.request))
-  unfolding stands_by
-  stands-marked true m h = rw (← m)
-  stands-marked false m h = absurd (false≢true (sym h))
+  stands b a m o = rw (m, o)
 
 -- ---- the past
 
--- when j found records have been looked at: c requests stand in the list l
-pub record Counted (e : Each) (q : Request) (i : ℕ) (s found : List ℕ) (len j c : ℕ) (l : List ℕ) : Type 0 where
+-- when j found records have been looked at: what was done in c of them stands in the list l
+pub record Counted (e : Each) (q : Request) (i : ℕ) (s found : List ℕ) (len j c : ℕ) (l : List Deed) : Type 0 where
   pub few : c ≤ j
   pub sized : length l ≡ len
-  pub past : take (2 * c) l ≡ past_words (past_by e q i s (take j found))
+  pub past : take c l ≡ map deed_of (past_by e q i s (take j found))
 
 module _ (e : Each) (q : Request) (i : ℕ) (s found : List ℕ) where
-  pub count-start : (l : List ℕ) → Counted e q i s found (length l) 0 0 l
-  unfolding past_words past_by keep flatten
+  pub count-start : (l : List Deed) → Counted e q i s found (length l) 0 0 l
+  unfolding past_by keep
   count-start l = record { few = omega arith; sized = refl; past = refl }
 
   -- the record found as number j
-  module _ {len j c at : ℕ} (here : at ≡ get_or found j 0) (h : j < length found) {l : List ℕ} (p : Counted e q i s found len j c l) where
+  module _ {len j c at : ℕ} (here : at ≡ get_or found j 0) (h : j < length found) {l : List Deed} (p : Counted e q i s found len j c l) where
     by-more : past_by e q i s (take (j + 1) found) ≡ past_by e q i s (take j found) ++ map (λ k. part s k request_bytes) (cond (stands_by e q i (record_from s at)) (at ∷ []) [])
     unfolding past_by
     by-more =
@@ -217,22 +201,24 @@ module _ (e : Each) (q : Request) (i : ℕ) (s found : List ℕ) where
         record {
           few = omega (arith, p.few);
           sized = p.sized;
-          past = p.past ∙ ap past_words (sym (by-more ∙ rw (← o, g) (append-nil (past_by e q i s (take j found)))));
+          past = p.past ∙ ap (map deed_of) (sym (by-more ∙ rw (← o, g) (append-nil (past_by e q i s (take j found)))));
         }
 
     pub count-more :
-        {o : Bool} → o ≡ stands_by e q i (record_from s at) → o ≡ true → {a b : ℕ} → a ≡ roles (part s at request_bytes) → b ≡ packed_of (done_by (part s at request_bytes)) → 2 * c + 1 < length l
-        → Counted e q i s found len (j + 1) (c + 1) (sets l (2 * c) (a ∷ b ∷ []))
-    count-more stands g {a} {b} f d r =
+        {o : Bool} → o ≡ stands_by e q i (record_from s at) → o ≡ true → {d : Deed} → d ≡ deed_of (part s at request_bytes) → c < length l
+        → Counted e q i s found len (j + 1) (c + 1) (set l c d)
+    count-more stands g {d} f r =
         record {
           few = omega (arith, p.few);
-          sized = length-sets l (2 * c) (a ∷ b ∷ []) ∙ p.sized;
+          sized = length-set l c d ∙ p.sized;
           past =
-              put_two l c a b r
-              ∙ rw (p.past, f, d) (sym (ap past_words (by-more ∙ rw (← stands, g)) ∙ past-snoc (past_by e q i s (take j found)) (part s at request_bytes)));
+              rw (add-one c, take-suc-set l c d r, p.past, f)
+              (sym (ap (map deed_of) (by-more ∙ rw (← stands, g)) ∙ map-append deed_of (past_by e q i s (take j found)) (part s at request_bytes ∷ [])));
         }
 
-  pub count-end : {len j c : ℕ} {l : List ℕ} → j ≡ length found → Counted e q i s found len j c l
-      → (c ≤ length found) × (take (2 * c) l ≡ past_words (past_by e q i s found)) × (length l ≡ len)
-  count-end {len} {j} {c} {l} f p =
-      (omega (arith, p.few), p.past ∙ ap (λ (m : List ℕ). past_words (past_by e q i s m)) (ap (λ (n : ℕ). take n found) f ∙ take-length found), p.sized)
+  pub count-end : {len j c : ℕ} {l : List Deed} → j ≡ length found → length found ≤ len → Counted e q i s found len j c l
+      → (take c l ≡ map deed_of (past_by e q i s found)) × (length (take c l) ≤ length found)
+  count-end {len} {j} {c} {l} f h p = (
+    p.past ∙ ap (λ (m : List ℕ). map deed_of (past_by e q i s m)) (ap (λ (n : ℕ). take n found) f ∙ take-length found),
+    omega (arith, length-take-le c l (omega (arith, p.few, p.sized)), p.few),
+  )

@@ -1,44 +1,43 @@
 // The past of one rule: what the user did in its run place, as the tallies of its exclusions take it in.
-ghost use Rattle.std.specs.Prelude.{◌≡◌, ℕ, ◌+◌, ◌*◌, ◌<◌, ◌≤◌, length, take, get_or};
-ghost use Rattle.format.specs.Layout.{request_bytes, record_bytes};
+ghost use Rattle.std.specs.Prelude.{◌≡◌, ℕ, ◌+◌, ◌<◌, ◌≤◌, length, map, get_or};
+ghost use Rattle.format.specs.Layout.{record_bytes, most_rules};
 ghost use Rattle.format.specs.Records.{record_from};
-ghost use Rattle.tally.specs.Code.{past_words};
+ghost use Rattle.tally.specs.Code.{deed_of};
 ghost use Rattle.history.specs.Code.{stands_by, past_by};
 
+use fields::layout::REQUEST_BYTES;
 use fields::request;
 use matching::masks::{Each, apart};
-use tally::past::put_past;
+use tally::deed::Deed;
 
 // The record at a byte is marked for rule i and stands in the request's run place.
-fn stands_in(each: Each, i: u32, q: &[u8], table: &[u8], at: usize) -> bool
-    requires { (length q.now ≡ request_bytes) × (at + record_bytes ≤ length table.now) × (i < 32) }
+fn stands_in(each: Each, i: u32, q: &[u8; REQUEST_BYTES], table: &[u8], at: usize) -> bool
+    requires { (at + record_bytes ≤ length table.now) × (i < most_rules) }
     ensures { result ≡ stands_by each q.now i (record_from table.now at) }
 {
-    if !request::marks(table, at).has(i) {
-        return false;
-    }
-    !apart(each, q, table, at).has(i)
+    request::marks(table, at).has(i) && !apart(each, q, table, at).has(i)
 }
 
-// Of the records that were found, puts down those that count for rule i, and says how many they are.
-pub fn past_of(each: Each, i: u32, q: &[u8], table: &[u8], found: &[u16], past: &mut [u32]) -> usize
-    requires q_len { (length q.now ≡ request_bytes) × (i < 32) × (2 * length found.now ≤ length past.old) }
+// What was done in those of the records found that count for rule i.
+pub fn past_of<'a>(
+    each: Each,
+    i: u32,
+    q: &[u8; REQUEST_BYTES],
+    table: &[u8],
+    found: &[u16],
+    room: &'a mut [Deed],
+) -> &'a [Deed]
+    requires i_bound { (i < most_rules) × (length found.now ≤ length room.old) }
     requires by_index { (j : ℕ) → j < length found.now → get_or found.now j 0 + record_bytes ≤ length table.now }
-    ensures { (result ≤ length found.now) × (take (2 * result) past.new ≡ past_words (past_by each q.now i table.now found.now)) × (length past.new ≡ length past.old) }
+    ensures { (result.now ≡ map deed_of (past_by each q.now i table.now found.now)) × (length result.now ≤ length found.now) }
 {
-    let n = found.len();
     let mut count = 0usize;
-    for j in 0..n {
-        let at = found[j] as usize;
+    for start in found {
+        let at = usize::from(*start);
         if stands_in(each, i, q, table, at) {
-            put_past(
-                past,
-                count,
-                request::roles(table, at),
-                request::privilege(table, at).packed(),
-            );
+            room[count] = Deed::read(table, at);
             count += 1;
         }
     }
-    count
+    &room[..count]
 }

@@ -1,18 +1,16 @@
 // What a request is to the rules of a policy, found in one pass over them. Judging, ending and giving are then operations on sets.
-ghost use Rattle.std.specs.Prelude.{◌≡◌, ℕ, ◌≤◌, length, Bool};
+ghost use Rattle.std.specs.Prelude.{◌≡◌, ℕ, Bool};
 ghost use Rattle.words.specs.Bytes.{bit};
-ghost use Rattle.format.specs.Layout.{request_bytes};
 ghost use Rattle.format.specs.Request.{Request};
-ghost use Rattle.format.specs.Policy.{Policy, policy_of};
-ghost use Rattle.policy_check.specs.Code.{CheckedIs};
+ghost use Rattle.format.specs.Policy.{Policy as Rules, policy_of};
 ghost use Rattle.matching.specs.Sets.{MatchedIs, EffectIs, judging_in};
 
 use crate::fits::fits;
 use crate::steps::{is_last, needs_no_run};
 use fields::field::flag;
-use fields::layout::BLOCK_BYTES;
+use fields::layout::REQUEST_BYTES;
 use fields::sets::RuleSet;
-use policy_check::policy::Checked;
+use policy_check::policy::Policy;
 
 // The rules that the request fits; those of them that judge it whether or not their run place is open; those whose last step it is.
 #[derive(Clone, Copy)]
@@ -31,18 +29,15 @@ pub struct Effect {
 }
 
 // One pass over the rules of an accepted policy.
-pub fn match_rules(policy: &[u8], checked: Checked, q: &[u8]) -> Matched
-    requires checked_is { CheckedIs policy.now checked }
-    requires q_len { length q.now ≡ request_bytes }
-    ensures { MatchedIs (policy_of policy.now) q.now result }
+pub fn match_rules(policy: &Policy<'_>, q: &[u8; REQUEST_BYTES]) -> Matched
+    ensures { MatchedIs (policy_of policy.now.image.now) q.now result }
 {
-    let rules = checked.rules;
+    let rules = policy.rules;
     let mut fitting = 0u32;
     let mut starting = 0u32;
     let mut last = 0u32;
     for i in 0..rules {
-        let at = BLOCK_BYTES * (i as usize);
-        let b = &policy[at..at + BLOCK_BYTES];
+        let b = policy.rule(i);
         let fit = fits(b, q, 0);
         fitting = fitting + flag(fit, i);
         starting = starting + flag(fit & needs_no_run(b, q), i);
@@ -58,14 +53,14 @@ pub fn match_rules(policy: &[u8], checked: Checked, q: &[u8]) -> Matched
 impl Matched {
     // "A rule that fits judges if it has no first step, or this is its first step, or its run place has a marked record."
     pub fn judging(self, opened: RuleSet) -> RuleSet
-        ensures { (p : Policy) (q : Request) → MatchedIs p q self → result.0 ≡ judging_in p q (λ (i : ℕ). bit i opened.0) }
+        ensures { (p : Rules) (q : Request) → MatchedIs p q self → result.0 ≡ judging_in p q (λ (i : ℕ). bit i opened.0) }
     {
         self.starting.or(self.fitting.and(opened))
     }
 
     // What a grant ends and gives, by the rules that judge.
     pub fn effect(self, judging: RuleSet) -> Effect
-        ensures { (p : Policy) (q : Request) (open_run : ℕ → Bool) → MatchedIs p q self → judging.0 ≡ judging_in p q open_run → EffectIs p q open_run result }
+        ensures { (p : Rules) (q : Request) (open_run : ℕ → Bool) → MatchedIs p q self → judging.0 ≡ judging_in p q open_run → EffectIs p q open_run result }
     {
         Effect {
             ends: judging.and(self.last),

@@ -1,18 +1,19 @@
 -- The bounds of a rule say which contexts the rule is about: a good request lies within them exactly where its context fits the rule.
 -- Assumes nothing.
-use Rattle.std.proofs.Common.{◌≡◌, ℕ, ◌+◌, ◌-◌, ◌*◌, ◌/◌, ◌%◌, ◌<◌, ◌≤◌, Bool, true, false, cond, not, ◌&&◌, ◌||◌, eqb, ltb, leb, List, length, get_or, sym, refl, ap, ◌∙◌, ap₂, arith, le-ltb, lt-ltb, ne_eqb, eqb-true, le-leb}
+use Rattle.std.proofs.Common.{◌≡◌, ℕ, ◌+◌, ◌-◌, ◌*◌, ◌/◌, ◌%◌, ◌<◌, ◌≤◌, Bool, true, false, cond, not, ◌&&◌, ◌||◌, eqb, ltb, leb, List, get_or, sym, refl, ap, ◌∙◌, ap₂, arith, le-ltb, lt-ltb, ne_eqb, eqb-true, le-leb}
 use native.Mathlib.Decide.{dec_le, dec_lt}
 use mathlib.Core.Bool.{and_assoc, and-true, and-false}
 use borrow.Author.Tests.{eqb-false, lt-leb}
-use Rattle.words.specs.Lists.{all_below}
+use native.Mathlib.Nat.{zero-add}
+use Rattle.words.specs.Lists.{all_below, tab}
 use Rattle.words.specs.Bytes.{part}
 use Rattle.word_laws.proofs.Bytes.{Byte}
+use Rattle.word_laws.proofs.Lists.{get_d-tab}
 use Rattle.format.specs.Request.{good_request}
 use Rattle.format.specs.Rule.{Rule, Level, low, high, good_level, good_rule, blank_level}
 use Rattle.format.specs.Fits.{level_fits, fits}
-use Rattle.format.specs.Policy.{Policy, policy_of}
-use Rattle.rule_tests.specs.Bounds.{level_number, level_first, mark_span, level_span, bound_word, reached, pair_fits, bounds_fit, Tests}
-use Rattle.rule_tests.specs.Shapes.{paired}
+use Rattle.rule_tests.specs.Bounds.{level_number, level_first, mark_span, level_span, bound_of, reached, pair_fits, bound_fits}
+use Rattle.rule_tests.specs.Shapes.{paired, levels_of, Narrow}
 use Rattle.rule_tests.proofs.GoodLevels.{asks, blank-parts, range-rises, no_value, level-stands, level_word, word_small, words-fit}
 
 -- ---- numbers from a first to a last
@@ -113,7 +114,7 @@ first_of x y h = omega arith
 second-of : (x y : ℕ) → x < 4294967296 → (x + 4294967296 * y) / 4294967296 ≡ y
 second-of x y h = omega arith
 
-module _ (r : Rule) (good : good_rule r ≡ true) (narrow : (l : ℕ) → l < 4 → ((r.level l).type < 65536) × ((r.level l).value < 65536) × ((r.level l).tail < 65536))
+module _ (r : Rule) (good : good_rule r ≡ true) (narrow : Narrow r)
     (word : ℕ → ℕ) (small : (l : ℕ) → word l < 4294967296)
   where
     level-bound : (l : ℕ) → l < 4 → reached (level_number (word l)) (level_first r l) (level_span r l) ≡ asks r word l
@@ -128,35 +129,26 @@ module _ (r : Rule) (good : good_rule r ≡ true) (narrow : (l : ℕ) → l < 4 
         go true e = used-bound v (word l) (small l) e (narrow l h)
         go false e = blank-bound v (word l) (small l) e
 
-    module _ (bounds : List ℕ) (i : ℕ) (has : (n : ℕ) → n < 8 → get_or bounds (8 * i + n) 0 ≡ bound_word r n) where
-      first-at : (k l : ℕ) → k ≡ 8 * i + l → l < 4 → get_or bounds k 0 ≡ level_first r l
-      unfolding bound_word
-      first-at k l e h = ap (λ (n : ℕ). get_or bounds n 0) e ∙ has l (omega arith) ∙ rw (lt-ltb l 4 h)
+    pair-bound : (l : ℕ) → l + 1 < 4 → pair_fits (bound_of r) l (paired word l) ≡ asks r word l && asks r word (l + 1)
+    unfolding pair_fits bound_of
+    pair-bound l h =
+        rw (
+          first_of (word l) (word (l + 1)) (small l),
+          second-of (word l) (word (l + 1)) (small l),
+          at (level_first r) l (omega arith),
+          at (level_span r) l (omega arith),
+          at (level_first r) (l + 1) h,
+          at (level_span r) (l + 1) h,
+        )
+        (ap₂ ◌&&◌ (level-bound l (omega arith)) (level-bound (l + 1) h))
+      where
+        at : (f : ℕ → ℕ) (k : ℕ) → k < 4 → get_or (tab f 0 4) k 0 ≡ f k
+        at f k b = get_d-tab f 0 4 k 0 b ∙ ap f (zero-add k)
 
-      span-at : (k l : ℕ) → k ≡ 8 * i + (l + 4) → l < 4 → get_or bounds k 0 ≡ level_span r l
-      unfolding bound_word
-      span-at k l e h =
-          let back : l + 4 - 4 ≡ l = omega arith in
-          ap (λ (n : ℕ). get_or bounds n 0) e ∙ has (l + 4) (omega arith) ∙ rw (le-ltb (l + 4) 4 (omega arith), back)
-
-      pair-bound : (at l : ℕ) → at ≡ 8 * i + l → l + 1 < 4 → pair_fits bounds at (paired word l) ≡ asks r word l && asks r word (l + 1)
-      unfolding pair_fits
-      pair-bound at l e h =
-          rw (
-            first_of (word l) (word (l + 1)) (small l),
-            second-of (word l) (word (l + 1)) (small l),
-            first-at at l e (omega arith),
-            span-at (at + 4) l (omega arith) (omega arith),
-            first-at (at + 1) (l + 1) (omega arith) h,
-            span-at (at + 1 + 4) (l + 1) (omega arith) h,
-          )
-          (ap₂ ◌&&◌ (level-bound l (omega arith)) (level-bound (l + 1) h))
-
-      bounds-fit : bounds_fit bounds (paired word 0) (paired word 2) i ≡ all_below 4 (asks r word)
-      unfolding bounds_fit all_below
-      bounds-fit =
-          ap₂ ◌&&◌ (pair-bound (8 * i) 0 (omega arith) (omega arith)) (pair-bound (8 * i + 2) 2 (omega arith) (omega arith))
-          ∙ sym (and_assoc (asks r word 0 && asks r word 1) (asks r word 2) (asks r word 3))
+    bound-fits : bound_fits (bound_of r) (levels_of word) ≡ all_below 4 (asks r word)
+    unfolding bound_fits all_below
+    bound-fits =
+        ap₂ ◌&&◌ (pair-bound 0 (omega arith)) (pair-bound 2 (omega arith)) ∙ sym (and_assoc (asks r word 0 && asks r word 1) (asks r word 2) (asks r word 3))
 
 -- ---- how far the last number of a level lies behind the first
 
@@ -181,25 +173,10 @@ module _ (r : Rule) (l : ℕ) where
     pub span-rises : good_rule r ≡ true → l < 4 → (r.level l).mark ≡ 4 → (r.level l).value ≤ (r.level l).tail
     span-rises good h e = (range-rises (r.level l) (rw (lt-ltb l r.depth used) at (level-stands r good l h)) e).1
 
--- ---- a record beside the bounds of a policy
+-- ---- a record beside the bounds of a rule
 
 -- a good request lies within the bounds of just the rules that it fits
-pub bounded : (p : Policy) (rules : ℕ) (shapes bounds : List ℕ) → Tests p rules shapes bounds → length bounds ≡ 256
-    → (s : List ℕ) (at : ℕ) → ((j : ℕ) → Byte (get_or s j 0)) → good_request (part s at 28) ≡ true
-    → (i : ℕ) → i < rules → bounds_fit bounds (paired (level_word s at) 0) (paired (level_word s at) 2) i ≡ fits (p.rule i) (part s at 28)
-bounded p rules shapes bounds of whole s at bytes request i h =
-    let shaped = of.shaped in
-    bounds-fit (p.rule i) (shaped.good i h) (shaped.narrow i) (level_word s at) (word_small s at bytes) bounds i has
-    ∙ words-fit s at bytes (p.rule i) (shaped.good i h) request
-  where
-    has : (n : ℕ) → n < 8 → get_or bounds (8 * i + n) 0 ≡ bound_word (p.rule i) n
-    has n b =
-        let d : (8 * i + n) / 8 ≡ i = omega arith in
-        let m : (8 * i + n) % 8 ≡ n = omega arith in
-        rw (d, m) at (of.bounded whole (8 * i + n) (omega arith))
-
--- ---- the bounds of a policy
-
--- number j of all the bounds
-abbrev pub bound_number : List ℕ → ℕ → ℕ
-bound_number policy j = bound_word ((policy_of policy).rule (j / 8)) (j % 8)
+pub bounded : (r : Rule) → good_rule r ≡ true → Narrow r → (s : List ℕ) (at : ℕ) → ((j : ℕ) → Byte (get_or s j 0)) → good_request (part s at 28) ≡ true
+    → bound_fits (bound_of r) (levels_of (level_word s at)) ≡ fits r (part s at 28)
+bounded r good narrow s at bytes request =
+    bound-fits r good narrow (level_word s at) (word_small s at bytes) ∙ words-fit s at bytes r good request

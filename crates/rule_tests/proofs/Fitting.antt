@@ -2,23 +2,17 @@
 -- Assumes nothing.
 use Rattle.std.proofs.Common.{◌≡◌, ℕ, ◌+◌, ◌*◌, ◌/◌, ◌%◌, ◌^◌, ◌<◌, Bool, true, false, cond, not, ◌&&◌, ◌||◌, eqb, ltb, List, get_or, sym, refl, ap, ◌∙◌, ap₂, arith, eq-eqb, ne_eqb, eqb-true}
 use mathlib.Core.Bool.{and_assoc, and-true}
-use mathlib.Core.Option.{none}
 use lib.Arith.{digits_div, digits_mod}
 use lib.Bits.{bit_and, and_mask, and_block, and_zero_r, and_le_l}
 use borrow.Author.Tests.{eqb-false, not-true}
 use Rattle.words.specs.Lists.{all_below}
-use Rattle.words.specs.Bytes.{u16_at, part}
+use Rattle.words.specs.Bytes.{part}
 use Rattle.word_laws.proofs.Bytes.{Byte}
-use Rattle.word_laws.proofs.Parts.{u16_at-part}
 use Rattle.word_laws.proofs.Tests.{all_below-at}
-use Rattle.format.specs.Block.{block}
 use Rattle.format.specs.Request.{good_request}
-use Rattle.format.specs.Rule.{Rule, Level, is_range, rule_at, good_level, good_rule, blank_level}
+use Rattle.format.specs.Rule.{Rule, Level, is_range, good_level, good_rule, blank_level}
 use Rattle.format.specs.Fits.{level_fits, fits}
-use Rattle.format.specs.Policy.{Policy, policy_fault, policy_of, rule_count}
-use Rattle.format_laws.proofs.AcceptedPolicy.{rule-good}
-use Rattle.rule_tests.specs.Shapes.{level_want, level_mask, paired, shape_word, plain, Shapes, shape_fits}
-use Rattle.rule_tests.proofs.Made.{Made}
+use Rattle.rule_tests.specs.Shapes.{level_want, level_mask, paired, levels_of, shape_of, plain, Narrow, shape_fits}
 use Rattle.rule_tests.proofs.GoodLevels.{LevelStands, asks, blank-parts, no_value, level-stands, level_word, word_small, words-fit}
 
 -- ---- numbers of two parts
@@ -86,7 +80,7 @@ module _ (r : Rule) (flat : plain r ≡ true) (l : ℕ) (four : l < 4) (stands :
 -- ---- the four levels
 
 module _ (r : Rule) (flat : plain r ≡ true) (good : good_rule r ≡ true)
-    (narrow : (l : ℕ) → l < 4 → ((r.level l).type < 65536) × ((r.level l).value < 65536) × ((r.level l).tail < 65536))
+    (narrow : Narrow r)
     (word : ℕ → ℕ) (small : (l : ℕ) → word l < 4294967296)
   where
     pair-asks : (l : ℕ) → l + 1 < 4 → eqb (bit_and (paired word l) (paired (level_mask r) l)) (paired (level_want r) l) ≡ asks r word l && asks r word (l + 1)
@@ -97,44 +91,14 @@ module _ (r : Rule) (flat : plain r ≡ true) (good : good_rule r ≡ true)
         ∙ ap₂ ◌&&◌ (level-test r flat l (omega arith) (level-stands r good l (omega arith)) n.0 word (small l))
         (level-test r flat (l + 1) h (level-stands r good (l + 1) h) (narrow (l + 1) h).0 word (small (l + 1)))
 
-    shape-fits : (shapes : List ℕ) (i : ℕ) → ((n : ℕ) → n < 4 → get_or shapes (4 * i + n) 0 ≡ shape_word r n)
-        → shape_fits shapes (paired word 0) (paired word 2) i ≡ all_below 4 (asks r word)
-    unfolding shape_fits shape_word all_below
-    shape-fits shapes i has =
-        let z : get_or shapes (4 * i) 0 ≡ paired (level_want r) 0 = ap (λ (k : ℕ). get_or shapes k 0) (omega arith) ∙ has 0 (omega arith) in
-        rw (z, has 1 (omega arith), has 2 (omega arith), has 3 (omega arith))
-        (ap₂ ◌&&◌ (pair-asks 0 (omega arith)) (pair-asks 2 (omega arith)) ∙ sym (and_assoc (asks r word 0 && asks r word 1) (asks r word 2) (asks r word 3)))
+    shape-fits : shape_fits (shape_of r) (levels_of word) ≡ all_below 4 (asks r word)
+    unfolding shape_fits all_below
+    shape-fits = ap₂ ◌&&◌ (pair-asks 0 (omega arith)) (pair-asks 2 (omega arith)) ∙ sym (and_assoc (asks r word 0 && asks r word 1) (asks r word 2) (asks r word 3))
 
--- ---- a record beside the shapes of a policy
+-- ---- a record beside the shape of a rule
 
 -- a good request has the shapes of just the rules that it fits, among those that have no range
-pub shaped : (p : Policy) (rules : ℕ) (shapes : List ℕ) → Shapes p rules shapes
-    → (s : List ℕ) (at : ℕ) → ((j : ℕ) → Byte (get_or s j 0)) → good_request (part s at 28) ≡ true
-    → (i : ℕ) → i < rules → plain (p.rule i) ≡ true → shape_fits shapes (paired (level_word s at) 0) (paired (level_word s at) 2) i ≡ fits (p.rule i) (part s at 28)
-shaped p rules shapes of s at bytes request i h flat =
-    shape-fits (p.rule i) flat (of.good i h) (of.narrow i) (level_word s at) (word_small s at bytes) shapes i has
-    ∙ words-fit s at bytes (p.rule i) (of.good i h) request
-  where
-    has : (n : ℕ) → n < 4 → get_or shapes (4 * i + n) 0 ≡ shape_word (p.rule i) n
-    has n b =
-        let d : (4 * i + n) / 4 ≡ i = omega arith in
-        let m : (4 * i + n) % 4 ≡ n = omega arith in
-        rw (d, m) at (of.word (4 * i + n) (omega arith))
-
--- ---- the shapes of a policy
-
--- number j of all the shapes
-abbrev pub shape_number : List ℕ → ℕ → ℕ
-shape_number policy j = shape_word ((policy_of policy).rule (j / 4)) (j % 4)
-
-module _ (policy : List ℕ) (accepted : policy_fault policy ≡ none) (bytes : (j : ℕ) → Byte (get_or policy j 0)) where
-  level-narrow : (i l : ℕ) → l < 4 → ((((policy_of policy).rule i).level l).type < 65536) × ((((policy_of policy).rule i).level l).value < 65536) × ((((policy_of policy).rule i).level l).tail < 65536)
-  unfolding policy_of rule_at
-  level-narrow i l h = (field (16 + 8 * l) (omega arith), field (20 + 8 * l) (omega arith), field (22 + 8 * l) (omega arith))
-    where
-      field : (f : ℕ) → f + 1 < 512 → u16_at (block policy i) f < 65536
-      field f b = rw (u16_at-part policy (512 * i) 512 f b) (omega (arith, bytes (512 * i + f), bytes (512 * i + f + 1)))
-
-  pub shapes-made : (rules : ℕ) (out : List ℕ) → rules ≡ rule_count policy → Made (shape_number policy) out (4 * rules) → Shapes (policy_of policy) rules out
-  unfolding policy_of
-  shapes-made rules out e shaped = record { count = e; word = shaped; good = λ i h. rule-good policy accepted i (omega arith); narrow = level-narrow }
+pub shaped : (r : Rule) → plain r ≡ true → good_rule r ≡ true → Narrow r → (s : List ℕ) (at : ℕ) → ((j : ℕ) → Byte (get_or s j 0)) → good_request (part s at 28) ≡ true
+    → shape_fits (shape_of r) (levels_of (level_word s at)) ≡ fits r (part s at 28)
+shaped r flat good narrow s at bytes request =
+    shape-fits r flat good narrow (level_word s at) (word_small s at bytes) ∙ words-fit s at bytes r good request

@@ -6,12 +6,13 @@ use native.Mathlib.Decide.{dec_le}
 use mathlib.Core.Bool.{and-true, and-false}
 use borrow.Author.Tests.{eqb-false, not-true}
 use Rattle.words.specs.Lists.{all_below, sum_below}
-use Rattle.words.specs.Bytes.{u32_at, part}
+use Rattle.words.specs.Bytes.{u16_at, u32_at, part}
 use Rattle.word_laws.proofs.Bytes.{Byte}
 use Rattle.word_laws.proofs.Tests.{both_first, both-second, all_below-at, all_below-same}
 use Rattle.format.specs.Request.{Request, user, roles, operation, target, context_of, level_type, level_value, used_level, blank_level, depth_of, good_context, good_request}
-use Rattle.format.specs.Rule.{Rule, Level, good_mark, good_values, good_level, good_steps, good_rule, blank_level as blank_rule_level}
+use Rattle.format.specs.Rule.{Rule, Level, good_mark, good_values, good_level, good_steps, good_rule, rule_at, blank_level as blank_rule_level}
 use Rattle.format.specs.Fits.{fits_at, level_fits, fits}
+use Rattle.rule_tests.specs.Shapes.{Narrow}
 use Rattle.request_check.proofs.RequestWords.{type-word, value-word}
 
 -- ---- one level
@@ -67,6 +68,14 @@ no_value v e one four =
     go false x y t = cc
 
 -- ---- the four levels
+
+-- the numbers of a rule's levels, as its block has them
+pub rule-narrow : (b : List ℕ) → ((j : ℕ) → Byte (get_or b j 0)) → Narrow (rule_at b)
+unfolding rule_at
+rule-narrow b bytes l h = (field (16 + 8 * l), field (20 + 8 * l), field (22 + 8 * l))
+  where
+    field : (f : ℕ) → u16_at b f < 65536
+    field f = omega (arith, bytes f, bytes (f + 1))
 
 -- a test up to a depth, as one at each of n
 pub within : (n d : ℕ) (f : ℕ → Bool) → d ≤ n → all_below n (λ l. not (ltb l d) || f l) ≡ all_below d f

@@ -2,11 +2,14 @@
 -- not enough. A level of a context is one number here, its type the high half, so that the values of a type follow one another; and what a rule asks
 -- is that the number lie from a first one to a last.
 -- Assumes nothing.
-use Rattle.std.specs.Prelude.{◌≡◌, ℕ, ◌+◌, ◌-◌, ◌*◌, ◌/◌, ◌%◌, ◌<◌, Bool, true, cond, ◌&&◌, List, length, ◌==◌, ◌≢◌, nat_le, nat_lt, slice_index}
-use Rattle.format.specs.Layout.{most_rules, most_levels}
+use Rattle.std.specs.Prelude.{◌≡◌, ℕ, ◌+◌, ◌-◌, ◌*◌, ◌/◌, ◌%◌, ◌<◌, Bool, cond, ◌&&◌, List, [], ◌==◌, nat_le, nat_lt, slice_index, slice_index_or}
+use Rattle.words.specs.Lists.{tab}
+use Rattle.format.specs.Layout.{most_levels}
 use Rattle.format.specs.Rule.{Rule, Level, is_range, low, high}
 use Rattle.format.specs.Policy.{Policy}
-use Rattle.rule_tests.specs.Shapes.{plain, Shapes}
+use Rattle.rule_tests.specs.Shapes.{Narrow}
+use Rattle.rule_tests.specs.declared.levels.Levels.{Levels}
+use Rattle.rule_tests.specs.declared.bounds.Bound.{Bound}
 
 -- ---- the bounds of a rule
 
@@ -26,16 +29,18 @@ mark_span l = cond (l.mark == 1) 0 (cond (is_range l) (high l - low l) 65535)
 unfoldable pub level_span : Rule → ℕ → ℕ
 level_span r l = cond (nat_lt l r.depth) (mark_span (r.level l)) 4294967295
 
--- a rule's bounds are eight numbers: the first ones of the four levels, then how far the last ones lie behind them
-abbrev pub bound_numbers : ℕ
-bound_numbers = 8
+-- both of each level
+unfoldable pub bound_of : Rule → Bound
+bound_of r = record { first = tab (level_first r) 0 most_levels; span = tab (level_span r) 0 most_levels }
 
-unfoldable pub bound_word : Rule → ℕ → ℕ
-bound_word r n = cond (nat_lt n most_levels) (level_first r n) (level_span r (n - most_levels))
+-- what a read past the end of an array gives
+abbrev pub no_bound : Bound
+no_bound = record { first = []; span = [] }
 
--- as many numbers as all the rules that a policy can have
-abbrev pub most_bounds : ℕ
-most_bounds = bound_numbers * most_rules
+-- the bounds are those of a policy's rules, as its image has them
+pub record Bounds (p : Policy) (rules : ℕ) (bounds : List Bound) : Type 0 where
+  pub bound : (i : ℕ) → i < rules → slice_index_or bounds i no_bound ≡ bound_of (p.rule i)
+  pub narrow : (i : ℕ) → i < rules → Narrow (p.rule i)
 
 -- ---- a context beside them
 
@@ -43,19 +48,12 @@ most_bounds = bound_numbers * most_rules
 unfoldable pub reached : ℕ → ℕ → ℕ → Bool
 reached number first span = nat_le ((number + (4294967296 - first)) % 4294967296) span
 
--- two levels of a context, as words in one number, lie within the bounds of two levels, the first of which stand at a place
-unfoldable pub pair_fits : List ℕ → ℕ → ℕ → Bool
-pair_fits bounds at pair =
-    reached (level_number (pair % 4294967296)) (slice_index bounds at) (slice_index bounds (at + most_levels))
-    && reached (level_number (pair / 4294967296)) (slice_index bounds (at + 1)) (slice_index bounds (at + 1 + most_levels))
+-- two levels of a context, as words in one number, lie within the bounds of two levels, from level l on
+unfoldable pub pair_fits : Bound → ℕ → ℕ → Bool
+pair_fits b l pair =
+    reached (level_number (pair % 4294967296)) (slice_index b.first l) (slice_index b.span l)
+    && reached (level_number (pair / 4294967296)) (slice_index b.first (l + 1)) (slice_index b.span (l + 1))
 
--- the levels 0 and 1 of a context, and 2 and 3, lie within the bounds of rule i
-unfoldable pub bounds_fit : List ℕ → ℕ → ℕ → ℕ → Bool
-bounds_fit bounds low high i = pair_fits bounds (bound_numbers * i) low && pair_fits bounds (bound_numbers * i + 2) high
-
--- ---- what the check of a table has of the rules: their shapes; and their bounds, or none if no rule has a range
-
-pub record Tests (p : Policy) (rules : ℕ) (shapes bounds : List ℕ) : Type 0 where
-  pub shaped : Shapes p rules shapes
-  pub bounded : length bounds ≡ most_bounds → (k : ℕ) → k < bound_numbers * rules → slice_index bounds k ≡ bound_word (p.rule (k / bound_numbers)) (k % bound_numbers)
-  pub unbounded : (length bounds ≢ most_bounds) → (i : ℕ) → i < rules → plain (p.rule i) ≡ true
+-- the levels of a context lie within the bounds
+unfoldable pub bound_fits : Bound → Levels → Bool
+bound_fits b levels = pair_fits b 0 levels.low && pair_fits b 2 levels.high

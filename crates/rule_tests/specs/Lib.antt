@@ -1,2 +1,3 @@
 pub mod Bounds
 pub mod Shapes
+pub mod Tests

@@ -1,18 +1,16 @@
 -- A rule's levels as numbers of 64 bits, two levels each, beside the levels of a context in the same form: how the code tests which contexts
 -- a rule is about that has no range. A level of a context is one word of 32 bits, its type the low half.
 -- Assumes nothing.
-use Rattle.std.specs.Prelude.{◌≡◌, ℕ, ◌+◌, ◌-◌, ◌*◌, ◌/◌, ◌%◌, ◌<◌, Bool, true, cond, not, ◌&&◌, ◌||◌, List, ◌==◌, bit_and, nat_lt, slice_index}
+use Rattle.std.specs.Prelude.{◌≡◌, ℕ, ◌+◌, ◌*◌, ◌<◌, Bool, cond, not, ◌&&◌, ◌||◌, List, ◌==◌, bit_and, nat_lt, slice_index_or}
 use Rattle.words.specs.Lists.{all_below}
 use Rattle.words.specs.Bytes.{bit}
 use Rattle.format.specs.Layout.{most_rules, most_levels}
-use Rattle.format.specs.Rule.{Rule, is_range, good_rule}
+use Rattle.format.specs.Rule.{Rule, is_range}
 use Rattle.format.specs.Policy.{Policy}
+use Rattle.rule_tests.specs.declared.levels.Levels.{Levels}
+use Rattle.rule_tests.specs.declared.shapes.Shape.{Shape}
 
 -- ---- the shape of a rule
-
--- a shape is four numbers: two wanted, and their two masks
-abbrev pub shape_numbers : ℕ
-shape_numbers = 4
 
 -- the word that a context has at level l, as far as the rule asks
 unfoldable pub level_want : Rule → ℕ → ℕ
@@ -26,28 +24,36 @@ level_mask r l = cond (nat_lt l r.depth) (cond ((r.level l).mark == 1) 429496729
 abbrev pub paired : (ℕ → ℕ) → ℕ → ℕ
 paired f l = f l + 4294967296 * f (l + 1)
 
--- number n of a rule's shape: 0 and 1 are what is wanted at levels 0 and 1, and 2 and 3, and then come the masks of the same levels
-unfoldable pub shape_word : Rule → ℕ → ℕ
-shape_word r n = cond (nat_lt n 2) (paired (level_want r) (2 * n)) (paired (level_mask r) (2 * n - 4))
+-- the words of four levels, two in each number
+abbrev pub levels_of : (ℕ → ℕ) → Levels
+levels_of f = record { low = paired f 0; high = paired f 2 }
+
+-- what a rule wants of them, and which bits it asks
+abbrev pub shape_of : Rule → Shape
+shape_of r = record { want = levels_of (level_want r); mask = levels_of (level_mask r) }
 
 -- no level of the rule has a range
 unfoldable pub plain : Rule → Bool
 plain r = all_below most_levels (λ l. not (is_range (r.level l)))
 
--- the numbers are the shapes of a policy's rules, four a rule, and the rules are as the check of a policy leaves them
-pub record Shapes (p : Policy) (rules : ℕ) (shapes : List ℕ) : Type 0 where
-  pub count : rules ≡ p.rules
-  pub word : (k : ℕ) → k < shape_numbers * rules → slice_index shapes k ≡ shape_word (p.rule (k / shape_numbers)) (k % shape_numbers)
-  pub good : (i : ℕ) → i < rules → good_rule (p.rule i) ≡ true
-  pub narrow : (i l : ℕ) → l < most_levels → (((p.rule i).level l).type < 65536) × (((p.rule i).level l).value < 65536) × (((p.rule i).level l).tail < 65536)
+-- what a read past the end of an array gives
+abbrev pub no_shape : Shape
+no_shape = record { want = levels_of (λ l. 0); mask = levels_of (λ l. 0) }
 
--- ---- a context beside them
+-- each number of its levels is one of two bytes
+abbrev pub Narrow : Rule → Type 0
+Narrow r = (l : ℕ) → l < most_levels → ((r.level l).type < 65536) × ((r.level l).value < 65536) × ((r.level l).tail < 65536)
 
--- the levels 0 and 1 of a context, and 2 and 3, are as the shape of rule i wants them
-unfoldable pub shape_fits : List ℕ → ℕ → ℕ → ℕ → Bool
-shape_fits shapes low high i =
-    (bit_and low (slice_index shapes (shape_numbers * i + 2)) == slice_index shapes (shape_numbers * i))
-    && bit_and high (slice_index shapes (shape_numbers * i + 3)) == slice_index shapes (shape_numbers * i + 1)
+-- the shapes are those of a policy's rules, as its image has them
+pub record Shapes (p : Policy) (rules : ℕ) (shapes : List Shape) : Type 0 where
+  pub shape : (i : ℕ) → i < rules → slice_index_or shapes i no_shape ≡ shape_of (p.rule i)
+  pub narrow : (i : ℕ) → i < rules → Narrow (p.rule i)
+
+-- ---- a context beside it
+
+-- the levels of a context are as the shape wants them
+unfoldable pub shape_fits : Shape → Levels → Bool
+shape_fits shape levels = (bit_and levels.low shape.mask.low == shape.want.low) && bit_and levels.high shape.mask.high == shape.want.high
 
 -- each mark that is set is for a rule that there is
 unfoldable pub marks_within : ℕ → ℕ → Bool

@@ -1,4 +1,6 @@
 #![tactic(auto)]
 
 pub mod bounds;
+pub mod levels;
 pub mod shapes;
+pub mod tests;

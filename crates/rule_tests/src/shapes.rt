@@ -1,76 +1,85 @@
 // The shapes of a policy's rules: what each asks of a context, prepared once for all the records of a table.
-ghost use Rattle.std.specs.Prelude.{◌≡◌, ◌*◌, ◌<◌, length};
-ghost use Rattle.std.proofs.Math.Option.{none};
-ghost use Rattle.format.specs.Layout.{block_bytes, most_levels, most_rules};
+ghost use Rattle.std.specs.Prelude.{◌≡◌, ◌<◌};
+ghost use Rattle.format.specs.Layout.{most_levels};
 ghost use Rattle.format.specs.Rule.{rule_at};
-ghost use Rattle.format.specs.Policy.{policy_fault, policy_of, rule_count};
-ghost use Rattle.rule_tests.specs.Shapes.{shape_numbers, level_want, level_mask, shape_word, Shapes, shape_fits};
+ghost use Rattle.format.specs.Policy.{policy_of};
+ghost use Rattle.rule_tests.specs.Shapes.{level_want, level_mask, shape_of, Narrow, Shapes, shape_fits};
 
-use fields::field::{u16_at, wide};
+use crate::levels::{Levels, paired};
+use fields::field::u16_at;
 use fields::layout::{
     BLOCK_BYTES, DEPTH_AT, FIXED, LEVEL_BYTES, LEVEL_MARK_AT, LEVEL_TYPE_AT, LEVEL_VALUE_AT,
     MOST_RULES,
 };
+use policy_check::policy::Policy;
 
-// A shape is four numbers: two wanted, and their two masks.
-const NUMBERS: usize = 4;
-
-// The numbers of all the shapes that a policy can have.
-pub const SHAPES: usize = NUMBERS * (MOST_RULES as usize);
+// The levels that a rule wants, and the bits of them that it asks.
+#[derive(Clone, Copy, Debug, PartialEq, Eq)]
+pub struct Shape {
+    pub want: Levels,
+    pub mask: Levels,
+}
 
 // What a rule wants of the word of a context's level.
-fn level_want(b: &[u8], l: usize) -> u64
-    requires { (length b.now ≡ block_bytes) × (l < most_levels) }
-    ensures { (result ≡ level_want (rule_at b.now) l) × (result < 4294967296) }
+fn level_want(b: &[u8; BLOCK_BYTES], l: usize) -> u32
+    requires { l < most_levels }
+    ensures { result ≡ level_want (rule_at b.now) l }
 {
-    (u16_at(b, LEVEL_TYPE_AT + LEVEL_BYTES * l)
-        + 65536 * u16_at(b, LEVEL_VALUE_AT + LEVEL_BYTES * l)) as u64
+    u16_at(b, LEVEL_TYPE_AT + LEVEL_BYTES * l) + 65536 * u16_at(b, LEVEL_VALUE_AT + LEVEL_BYTES * l)
 }
 
 // The bits of that word which the rule asks.
-fn level_mask(b: &[u8], l: usize) -> u64
-    requires { (length b.now ≡ block_bytes) × (l < most_levels) }
-    ensures { (result ≡ level_mask (rule_at b.now) l) × (result < 4294967296) }
+fn level_mask(b: &[u8; BLOCK_BYTES], l: usize) -> u32
+    requires { l < most_levels }
+    ensures { result ≡ level_mask (rule_at b.now) l }
 {
-    if wide(b[DEPTH_AT]) as usize <= l {
+    if usize::from(b[DEPTH_AT]) <= l {
         return 0;
     }
     if b[LEVEL_MARK_AT + LEVEL_BYTES * l] == FIXED {
-        return 4294967295;
+        return u32::MAX;
     }
-    65535
+    u32::from(u16::MAX)
 }
 
-// Number n of a rule's shape.
-fn shape_word(b: &[u8], n: usize) -> u64
-    requires { (length b.now ≡ block_bytes) × (n < shape_numbers) }
-    ensures { result ≡ shape_word (rule_at b.now) n }
-{
-    if n < 2 {
-        return level_want(b, 2 * n) + 4294967296 * level_want(b, 2 * n + 1);
+impl Shape {
+    // The shape of the rules that a policy has not.
+    pub const NONE: Shape = Shape {
+        want: Levels { low: 0, high: 0 },
+        mask: Levels { low: 0, high: 0 },
+    };
+
+    // That of a rule, from its block.
+    pub fn of(b: &[u8; BLOCK_BYTES]) -> Shape
+        ensures shape { result ≡ shape_of (rule_at b.now) }
+        ensures narrow { Narrow (rule_at b.now) }
+    {
+        Shape {
+            want: Levels {
+                low: paired(level_want(b, 0), level_want(b, 1)),
+                high: paired(level_want(b, 2), level_want(b, 3)),
+            },
+            mask: Levels {
+                low: paired(level_mask(b, 0), level_mask(b, 1)),
+                high: paired(level_mask(b, 2), level_mask(b, 3)),
+            },
+        }
     }
-    level_mask(b, 2 * n - 4) + 4294967296 * level_mask(b, 2 * n - 4 + 1)
+
+    // The levels of a context are as the shape wants them.
+    pub fn fits(&self, levels: Levels) -> bool
+        ensures { result ≡ shape_fits self.now levels }
+    {
+        (levels.low & self.mask.low == self.want.low)
+            & (levels.high & self.mask.high == self.want.high)
+    }
 }
 
-// The shapes of an accepted policy's rules.
-pub fn shapes_of(policy: &[u8], rules: u32, out: &mut [u64; SHAPES])
-    requires policy_value { (policy_fault policy.now ≡ none) × (rules ≡ rule_count policy.now) }
-    requires out_len { length out.old ≡ shape_numbers * most_rules }
-    ensures { Shapes (policy_of policy.now) rules out.new }
+// The shapes of a policy's rules. The array is lent, since one that is returned would be copied.
+pub fn shapes_of(policy: &Policy<'_>, out: &mut [Shape; MOST_RULES as usize])
+    ensures { Shapes (policy_of policy.now.image.now) policy.now.rules out.new }
 {
-    let n = NUMBERS * (rules as usize);
-    for k in 0..n {
-        let from = BLOCK_BYTES * (k / NUMBERS);
-        let to = from + BLOCK_BYTES;
-        out[k] = shape_word(&policy[from..to], k % NUMBERS);
+    for i in 0..policy.rules {
+        out[i as usize] = Shape::of(policy.rule(i));
     }
-}
-
-// The levels of a context, two in each number, are as the shape of the rule of an index wants them.
-pub fn shape_fits(shapes: &[u64; SHAPES], low: u64, high: u64, i: u32) -> bool
-    requires { i < most_rules }
-    ensures { result ≡ shape_fits shapes.now low high i }
-{
-    let at = NUMBERS * (i as usize);
-    (low & shapes[at + 2] == shapes[at]) & (high & shapes[at + 3] == shapes[at + 1])
 }

@@ -14,8 +14,6 @@ use Rattle.judge.specs.Decide.{decide}
 use Rattle.judge.specs.Close.{close}
 use Rattle.register.specs.Calls.{Call, call_step}
 use Rattle.register.specs.Demand3.{answers, after}
-use Rattle.answers.specs.Code.{answer_of}
-use Rattle.answers.specs.declared.reply.Reply.{Reply}
 use Rattle.session.specs.Session.{call_of, cut, four_numbers, written}
 
 -- ---- a call's bytes
@@ -56,12 +54,6 @@ four-long a = refl
 written_one : (a : Answer) (l : List Answer) → written (a ∷ l) ≡ four_numbers a ++ written l
 unfolding written flatten
 written_one a l = refl
-
--- the numbers of a reply that is known
-pub known-four :
-    (before : List ℕ) (at : ℕ) {after : List ℕ} {x y : Reply} → after ≡ sets before at (four_numbers (answer_of y)) → x ≡ y
-    → after ≡ sets before at (four_numbers (answer_of x))
-known-four before at e h = rw h e
 
 module _ (step : List ℕ → Call → Outcome (List ℕ)) where
   -- a call with the first piece, and the calls with the rest

@@ -3,13 +3,15 @@ ghost use Rattle.std.specs.Prelude.{◌≡◌, [], ◌∷◌, ◌+◌, ◌-◌, 
 ghost use Rattle.std.proofs.lemmas.List.Edits.{sets};
 ghost use Rattle.register.specs.Calls.{call_step};
 ghost use Rattle.register.specs.Demand3.{answers as answers_of, after};
-ghost use Rattle.answers.specs.Code.{answer_of, outcome};
-ghost use Rattle.session.specs.Session.{call_of, cut, four_numbers, written, Ran};
+ghost use Rattle.answers.specs.Code.{accepted_of};
+ghost use Rattle.answers.specs.Numbers.{four, four_of};
+ghost use Rattle.session.specs.Session.{call_of, cut, written, Ran};
 
-use answers::reply::Reply;
+use answers::numbers::SodReply;
 use checks::calls::make_table;
 use closing::calls::close;
 use engine::deciding::decide;
+use format::answer::Refusal;
 
 // Where a piece of n bytes ends that begins at a byte of these many.
 fn end_of(bytes: usize, at: usize, n: usize) -> usize
@@ -22,37 +24,25 @@ fn end_of(bytes: usize, at: usize, n: usize) -> usize
     at + n
 }
 
-// Writes four numbers.
-fn put_four(answers: &mut [u32], at: usize, number: u32, first: u32, second: u32, third: u32)
-    requires { at + 4 ≤ length answers.old }
-    ensures { answers.new ≡ sets answers.old at (number ∷ first ∷ second ∷ third ∷ []) }
-{
-    answers[at] = number;
-    answers[at + 1] = first;
-    answers[at + 2] = second;
-    answers[at + 3] = third;
-}
-
 // Writes an answer's four numbers.
-fn put_answer(answers: &mut [u32], at: usize, answer: Reply)
+fn put_answer(answers: &mut [u32], at: usize, answer: SodReply)
     requires { at + 4 ≤ length answers.old }
-    ensures { answers.new ≡ sets answers.old at (four_numbers (answer_of answer)) }
+    ensures { answers.new ≡ sets answers.old at (answer.number ∷ answer.first ∷ answer.second ∷ answer.third ∷ []) }
 {
-    match answer {
-        Reply::Accepted(n) => put_four(answers, at, 0, n, 0, 0),
-        Reply::Granted(g) => put_four(answers, at, 0, g.recorded, g.removed, g.held),
-        Reply::Refused(r) => put_four(answers, at, r.number, r.first, r.second, 0),
-    }
+    answers[at] = answer.number;
+    answers[at + 1] = answer.first;
+    answers[at + 2] = answer.second;
+    answers[at + 3] = answer.third;
 }
 
 // One call to the engine, of its kind.
-fn call(policy: &[u8], table: &mut [u8], kind: u8, bytes: &[u8]) -> Reply
-    ensures { outcome (answer_of result) table.new ≡ call_step policy.now table.old (call_of kind bytes.now) }
+fn call(policy: &[u8], table: &mut [u8], kind: u8, bytes: &[u8]) -> SodReply
+    ensures { (four_of result ≡ four (call_step policy.now table.old (call_of kind bytes.now)).answer) × (table.new ≡ (call_step policy.now table.old (call_of kind bytes.now)).state) }
 {
     if kind == 0 {
-        return decide(policy, table, bytes);
+        return SodReply::from(decide(policy, table, bytes));
     }
-    close(policy, table, bytes)
+    SodReply::from(close(policy, table, bytes))
 }
 
 // The calls one after another, each on the table as the last one left it.
@@ -86,17 +76,11 @@ pub fn run(
     lengths: &[usize],
     bytes: &[u8],
     answers: &mut [u32],
-) -> Reply
+) -> Result<u32, Refusal>
     requires { (length kinds.now ≡ length lengths.now) × (length answers.old ≡ 4 * length lengths.now) }
-    ensures { Ran policy.now table.old (cut kinds.now lengths.now bytes.now) answers.old (answer_of result) answers.new table.new }
+    ensures { Ran policy.now table.old (cut kinds.now lengths.now bytes.now) answers.old (accepted_of result) answers.new table.new }
 {
-    let made = make_table(policy, table);
-    match made {
-        Reply::Accepted(_) => {
-            call_each(policy, table, kinds, lengths, bytes, answers);
-            made
-        }
-        Reply::Granted(_) => made,
-        Reply::Refused(_) => made,
-    }
+    let places = make_table(policy, table)?;
+    call_each(policy, table, kinds, lengths, bytes, answers);
+    Ok(places)
 }

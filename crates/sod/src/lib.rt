@@ -10,7 +10,7 @@ ghost use Rattle.xml_calls.specs.Calls.{read_rules, write_rules};
 ghost use Rattle.answers.specs.Numbers.{four, four_of, narrowed};
 ghost use Rattle.sod.specs.Code.{left};
 
-use answers::numbers::{SodReply, converted_of, reply_of};
+use answers::numbers::SodReply;
 use checks::calls::{check_policy, check_table, make_table};
 use closing::calls::close;
 use conversion::reading::read_rules;
@@ -21,42 +21,42 @@ use engine::deciding::{decide, preview};
 pub extern "C" fn sod_check_policy(policy: &[u8]) -> SodReply
     ensures { four_of result ≡ four (check_policy policy.now) }
 {
-    reply_of(check_policy(policy))
+    SodReply::from(check_policy(policy))
 }
 
 #[unsafe(no_mangle)]
 pub extern "C" fn sod_check_table(policy: &[u8], table: &[u8]) -> SodReply
     ensures { four_of result ≡ four (check_table policy.now table.now) }
 {
-    reply_of(check_table(policy, table))
+    SodReply::from(check_table(policy, table))
 }
 
 #[unsafe(no_mangle)]
 pub extern "C" fn sod_fresh_table(policy: &[u8], table: &mut [u8]) -> SodReply
     ensures { left (four_of result) table.new ≡ left (four (make_table policy.now table.old).answer) (make_table policy.now table.old).state }
 {
-    reply_of(make_table(policy, table))
+    SodReply::from(make_table(policy, table))
 }
 
 #[unsafe(no_mangle)]
 pub extern "C" fn sod_decide(policy: &[u8], table: &mut [u8], request: &[u8]) -> SodReply
     ensures { left (four_of result) table.new ≡ left (four (decide_of policy.now table.old request.now).answer) (decide_of policy.now table.old request.now).state }
 {
-    reply_of(decide(policy, table, request))
+    SodReply::from(decide(policy, table, request))
 }
 
 #[unsafe(no_mangle)]
 pub extern "C" fn sod_preview(policy: &[u8], table: &[u8], request: &[u8]) -> SodReply
     ensures { four_of result ≡ four (preview_of policy.now table.now request.now) }
 {
-    reply_of(preview(policy, table, request))
+    SodReply::from(preview(policy, table, request))
 }
 
 #[unsafe(no_mangle)]
 pub extern "C" fn sod_close(policy: &[u8], table: &mut [u8], context: &[u8]) -> SodReply
     ensures { left (four_of result) table.new ≡ left (four (close_of policy.now table.old context.now).answer) (close_of policy.now table.old context.now).state }
 {
-    reply_of(close(policy, table, context))
+    SodReply::from(close(policy, table, context))
 }
 
 // ---- rules as text
@@ -70,12 +70,12 @@ pub extern "C" fn sod_read_rules(
 ) -> SodReply
     ensures { left (four_of result) output.new ≡ left (narrowed (four (read_rules text.now names.now second.now output.old).answer)) (read_rules text.now names.now second.now output.old).state }
 {
-    converted_of(read_rules(text, names, second, output))
+    SodReply::from(read_rules(text, names, second, output))
 }
 
 #[unsafe(no_mangle)]
 pub extern "C" fn sod_write_rules(policy: &[u8], names: &[u8], output: &mut [u8]) -> SodReply
     ensures { left (four_of result) output.new ≡ left (narrowed (four (write_rules policy.now names.now output.old).answer)) (write_rules policy.now names.now output.old).state }
 {
-    converted_of(write_rules(policy, names, output))
+    SodReply::from(write_rules(policy, names, output))
 }

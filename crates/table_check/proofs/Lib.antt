@@ -1,3 +1,4 @@
+pub mod Counted
 pub mod Here
 pub mod Left
 pub mod Marked

@@ -6,7 +6,8 @@ use mathlib.Core.Path.{◌≡◌, refl, sym, ap, ◌∙◌}
 use mathlib.Core.Bool.{Bool, true, false, cond, ◌&&◌, ◌||◌}
 use mathlib.Core.List.{List}
 use borrow.Author.Tests.{leb-true, eqb-true, eq-eqb, ne_eqb}
-use lib.ListN.{length, get_or}
+use lib.ListN.{length, take}
+use lib.Seq.{get_or-take, length-take-le}
 use lib.Dec.{eqb, leb, ltb}
 use Rattle.words.specs.Lists.{keep, any_of, all_below}
 use Rattle.words.specs.Bytes.{u16_at, bit}
@@ -16,8 +17,11 @@ use Rattle.format.specs.Request.{Request, roles, has_role}
 use Rattle.format.specs.Rule.{Exclusion, exclusion_at, same_privilege, blank_privilege, good_exclusion, good_roles, good_privileges}
 use Rattle.judge.specs.Tally.{does, counts_for, role_tally, times_listed, times_done, repeats, privilege_tally, tally}
 use Rattle.tally.specs.declared.tallies.Tally.{Tally}
-use Rattle.tally.specs.Code.{TallyOf, member_at, roles_among, listed, repeated, member_counts, members_count}
+use Rattle.tally.specs.declared.counting.Counted.{Counted}
+use Rattle.tally.specs.Code.{TallyOf, counted_at, member_at, no_count, roles_among, listed, repeated, member_counts, members_count}
+use Rattle.words.specs.Lists.{sum_below}
 use Rattle.word_laws.proofs.Below.{sum_below-same}
+use Rattle.tally.proofs.Lists.{list_any-below, count_by-below}
 use Rattle.tally.proofs.Privileges.{packed-same}
 
 -- ---- what the check of an exclusion says of it
@@ -85,29 +89,51 @@ module _ (b : List ℕ) (e : ℕ) (qs : List Request) (t : Tally) (good : good_e
 
 -- ---- kind 2
 
+-- ms are the members of x that count
 module _ (x : Exclusion) (qs : List Request) (t : Tally) (good : good_exclusion x ≡ true) (of : TallyOf x qs t) where
-  member-same : (i j : ℕ) → i < 8 → j < 8 → eqb (member_at t.members i) (member_at t.members j) ≡ same_privilege (x.member i) (x.member j)
+  -- those that count
+  among : List Counted
+  among = take x.n t.members
+
+  among-long : length among ≡ x.n
+  unfolding among
+  among-long = omega (arith, length-take-le {A = Counted} x.n t.members, of.eight, n-most x good)
+
+  among-at : (k : ℕ) → k < x.n → counted_at among k ≡ counted_at t.members k
+  unfolding among
+  among-at k h = get_or-take x.n t.members k _ h
+
+  member-same : (i j : ℕ) → i < x.n → j < x.n → eqb (member_at among i) (member_at among j) ≡ same_privilege (x.member i) (x.member j)
   member-same i j hi hj =
-      rw (of.member i hi, of.member j hj) (packed-same (x.member i) (x.member j) (of.small i hi) (of.small j hj))
+      let few = n-most x good in
+      let ei = ap (λ (c : Counted). c.privilege.0) (among-at i hi) ∙ of.member i (omega arith) in
+      let ej = ap (λ (c : Counted). c.privilege.0) (among-at j hj) ∙ of.member j (omega arith) in
+      rw (ei, ej) (packed-same (x.member i) (x.member j) (of.small i (omega arith)) (of.small j (omega arith)))
 
-  repeats-same : (i : ℕ) → i < 8 → repeated t.members i ≡ repeats x i
+  repeats-same : (i : ℕ) → i < x.n → repeated among i ≡ repeats x i
   unfolding repeated repeats
-  repeats-same i h = any_below-same i _ _ (λ j k. member-same j i (omega arith) h)
+  repeats-same i h =
+      list_any-below (λ (c : Counted). eqb c.privilege.0 (member_at among i)) no_count among i (omega (arith, among-long))
+      ∙ any_below-same i _ _ (λ j k. member-same j i (omega arith) h)
 
-  listed_same : (i : ℕ) → i < 8 → listed t.members x.n i ≡ times_listed x i
+  listed_same : (i : ℕ) → i < x.n → listed among i ≡ times_listed x i
   unfolding listed times_listed
   listed_same i h =
-      sum_below-same x.n _ _ (λ j k. ap (λ (a : Bool). cond a 1 0) (member-same j i (omega (arith, n-most x good)) h))
+      count_by-below (λ (c : Counted). eqb c.privilege.0 (member_at among i)) no_count among
+      ∙ ap (λ (n : ℕ). sum_below n (λ j. cond (eqb (member_at among j) (member_at among i)) 1 0)) among-long
+      ∙ sum_below-same x.n _ _ (λ j k. ap (λ (a : Bool). cond a 1 0) (member-same j i k h))
 
-  done-same : (t.kind ≡ 1 → ⊥) → (i : ℕ) → i < 8 → get_or t.times i 0 ≡ times_done x i qs
-  done-same is i h = of.done is i h ∙ done-counts x i qs (ne_eqb x.kind 1 (λ e. is (of.kind ∙ e)))
+  done-same : (t.kind ≡ 1 → ⊥) → (i : ℕ) → i < x.n → (counted_at among i).times ≡ times_done x i qs
+  done-same is i h =
+      let few = n-most x good in
+      ap (λ (c : Counted). c.times) (among-at i h)
+      ∙ of.done is i (omega arith)
+      ∙ done-counts x i qs (ne_eqb x.kind 1 (λ e. is (of.kind ∙ e)))
 
-  pub privileges-tally : (t.kind ≡ 1 → ⊥) → members_count t.members t.times x.n ≡ tally x qs
-  unfolding members_count member_counts tally privilege_tally
+  pub privileges-tally : (t.kind ≡ 1 → ⊥) → members_count (take x.n t.members) ≡ tally x qs
+  unfolding among members_count member_counts tally privilege_tally
   privileges-tally is =
       let two : eqb x.kind 1 ≡ false = ne_eqb x.kind 1 (λ e. is (of.kind ∙ e)) in
-      rw two
+      rw (two, among-long)
       (sum_below-same x.n _ _
-      (λ i h.
-      let b : i < 8 = omega (arith, n-most x good) in
-      rw (repeats-same i b, listed_same i b, done-same is i b)))
+      (λ i h. rw (repeats-same i h, listed_same i h, done-same is i h)))

@@ -2,4 +2,3 @@ pub mod Lists
 pub mod Privileges
 pub mod Taken
 pub mod Exclusions
-pub mod PastWords

@@ -1,89 +1,101 @@
 // What the members of an exclusion count: "Kind 1: how many member roles appear among all their active roles. Kind 2: each different member
 // counts min(times listed, times done), summed."
-ghost use Rattle.std.specs.Prelude.{◌≡◌, cond, ℕ, ◌+◌, ◌*◌, ◌<◌, ◌≤◌, length};
+ghost use Rattle.std.specs.Prelude.{◌≡◌, ℕ, ◌+◌, ◌*◌, ◌%◌, ◌<◌, ◌≤◌, cond, eqb, length};
 ghost use Rattle.words.specs.Bytes.{u16_at};
-ghost use Rattle.format.specs.Layout.{block_bytes, members_at, exclusion_bytes, member_bytes, highest_role};
-ghost use Rattle.tally.specs.Code.{roles_among, listed, repeated, member_counts, members_count};
+ghost use Rattle.format.specs.Layout.{members_at, exclusion_bytes, member_bytes, highest_role, most_members, most_exclusions};
+ghost use Rattle.tally.specs.Code.{has_member, roles_among, listed, repeated, member_counts, members_count};
 
 use fields::field::u16_at;
-use fields::layout::{EXCLUSION_BYTES, MEMBER_BYTES, MEMBERS_AT};
+use fields::layout::{BLOCK_BYTES, EXCLUSION_BYTES, MEMBER_BYTES, MEMBERS_AT};
 use fields::number::Role;
 use fields::privilege::Packed;
 use fields::sets::Roles;
 
-// 1 or 0: a count without a branch.
-pub fn one_if(b: bool) -> u32
-    ensures { (result ≡ cond b 1 0) × (result ≤ 1) }
+// A privilege among an exclusion's members, and how often it was done.
+#[derive(Clone, Copy, Debug, PartialEq, Eq)]
+pub struct Counted {
+    pub privilege: Packed,
+    pub times: u32,
+}
+
+impl Counted {
+    // The place of a member that is not read yet.
+    pub const NONE: Counted = Counted {
+        privilege: Packed(0),
+        times: 0,
+    };
+
+    // After what is done. (The remainder keeps the sum in bounds; no count comes to it.)
+    pub fn after(self, done: Packed) -> Self
+        ensures { (result.privilege ≡ self.privilege) × (result.times ≡ self.times % 65536 + cond (eqb done.0 self.privilege.0) 1 0) }
+    {
+        Counted {
+            privilege: self.privilege,
+            times: self.times % 65536 + u32::from(done == self.privilege),
+        }
+    }
+}
+
+// Member k of an exclusion of roles is among these.
+fn has_member(b: &[u8; BLOCK_BYTES], e: usize, k: usize, roles: Roles) -> bool
+    requires { (e < most_exclusions) × (k < most_members) × (1 ≤ u16_at b.now (members_at + exclusion_bytes * e + member_bytes * k)) × (u16_at b.now (members_at + exclusion_bytes * e + member_bytes * k) ≤ highest_role) }
+    ensures { result ≡ has_member b.now e k roles.0 }
 {
-    if b { 1 } else { 0 }
+    roles.has(Role(u16_at(b, MEMBERS_AT + EXCLUSION_BYTES * e + MEMBER_BYTES * k)))
 }
 
 // How many of an exclusion's n member roles are among these.
-pub fn count_roles(b: &[u8], e: usize, n: usize, roles: Roles) -> u32
-    requires b_len { (length b.now ≡ block_bytes) × (e < 8) × (n ≤ 8) }
+pub fn count_roles(b: &[u8; BLOCK_BYTES], e: usize, n: usize, roles: Roles) -> u32
+    requires b_len { (e < most_exclusions) × (n ≤ most_members) }
     requires by_index { (k : ℕ) → k < n → (1 ≤ u16_at b.now (members_at + exclusion_bytes * e + member_bytes * k)) × (u16_at b.now (members_at + exclusion_bytes * e + member_bytes * k) ≤ highest_role) }
     ensures { result ≡ roles_among b.now e n roles.0 }
 {
-    let mut count = 0u32;
-    for k in 0..n {
-        let role = Role(u16_at(b, MEMBERS_AT + EXCLUSION_BYTES * e + MEMBER_BYTES * k));
-        count = count + one_if(roles.has(role));
-    }
-    count
+    (0..n).filter(|k| has_member(b, e, *k, roles)).count() as u32
 }
 
 // An earlier member is the same as member k.
-fn repeats(members: [Packed; 8], k: usize) -> bool
-    requires { k < 8 }
-    ensures { result ≡ repeated members k }
+fn repeats(members: &[Counted], k: usize) -> bool
+    requires { k < length members.now }
+    ensures { result ≡ repeated members.now k }
 {
-    let member = members[k];
-    let mut found = false;
-    for j in 0..k {
-        let other = members[j];
-        found = found | (other.0 == member.0);
-    }
-    found
+    let privilege = members[k].privilege;
+    members[..k]
+        .iter()
+        .any(|other| other.privilege == privilege)
 }
 
-// How many of the first n members are member k.
-fn times_listed(members: [Packed; 8], n: usize, k: usize) -> u32
-    requires { (n ≤ 8) × (k < 8) }
-    ensures { (result ≡ listed members n k) × (result ≤ 8) }
+// How many of the members are member k.
+fn times_listed(members: &[Counted], k: usize) -> u32
+    requires { (length members.now ≤ most_members) × (k < length members.now) }
+    ensures { (result ≡ listed members.now k) × (result ≤ most_members) }
 {
-    let member = members[k];
-    let mut count = 0u32;
-    for j in 0..n {
-        let other = members[j];
-        count = count + one_if(other.0 == member.0);
-    }
-    count
+    let privilege = members[k].privilege;
+    members
+        .iter()
+        .filter(|other| other.privilege == privilege)
+        .count() as u32
 }
 
-// What member k counts, done so many times: nothing if it repeats an earlier one.
-fn count_member(members: [Packed; 8], times: [u32; 8], n: usize, k: usize) -> u32
-    requires { (n ≤ 8) × (k < 8) }
-    ensures { (result ≡ member_counts members times n k) × (result ≤ 8) }
+// What member k counts: nothing if it repeats an earlier one.
+fn count_member(members: &[Counted], k: usize) -> u32
+    requires { (length members.now ≤ most_members) × (k < length members.now) }
+    ensures { (result ≡ member_counts members.now k) × (result ≤ most_members) }
 {
     if repeats(members, k) {
         return 0;
     }
-    let most = times_listed(members, n, k);
-    let done = times[k];
+    let most = times_listed(members, k);
+    let done = members[k].times;
     if most < done {
         return most;
     }
     done
 }
 
-// What the first n members count together.
-pub fn count_privileges(members: [Packed; 8], times: [u32; 8], n: usize) -> u32
-    requires { n ≤ 8 }
-    ensures { result ≡ members_count members times n }
+// What the members count together.
+pub fn count_privileges(members: &[Counted]) -> u32
+    requires { length members.now ≤ most_members }
+    ensures { result ≡ members_count members.now }
 {
-    let mut count = 0u32;
-    for k in 0..n {
-        count = count + count_member(members, times, n, k);
-    }
-    count
+    (0..members.len()).map(|k| count_member(members, k)).sum()
 }

@@ -2,5 +2,5 @@
 #![tactic(auto)]
 
 pub mod counting;
-pub mod past;
+pub mod deed;
 pub mod tallies;

@@ -4,15 +4,15 @@ ghost use Rattle.std.specs.Prelude.{◌≡◌, ◌*◌, ◌≤◌, length, take,
 ghost use Rattle.std.specs.Io.KnownBytes.{Appends};
 ghost use Rattle.format.specs.Layout.{block_bytes, policy_blocks, table_blocks};
 ghost use Rattle.format.specs.Calls.{make_table};
-ghost use Rattle.answers.specs.Code.{answer_of};
+ghost use Rattle.answers.specs.Code.{granted_of};
 ghost use Rattle.trial_run.specs.Reading.{ReadsFront, LosesNone, ReadsBlocks, promised, lent, policy_size};
 ghost use Rattle.trial_run.specs.Text.{number, line, decided, Decided, most_requests, session_text, trial_text};
 
-use answers::reply::Reply;
+use answers::numbers::SodReply;
 use checks::calls::make_table;
 use engine::deciding::decide;
-use fields::field::wide;
 use fields::layout::{BLOCK_BYTES, POLICY_BLOCKS, REQUEST_BYTES, TABLE_BLOCKS, TOTAL_AT};
+use format::answer::{Grant, Refusal};
 use std::io;
 use std::io::{Read, Write};
 
@@ -21,14 +21,7 @@ fn promised(low: u8, high: u8) -> usize
     ensures within { (1 ≤ result) × (result ≤ policy_blocks) }
     ensures value { result ≡ promised low high }
 {
-    let n = wide(low) + 256 * wide(high);
-    if n < 1 {
-        return 1;
-    }
-    if POLICY_BLOCKS < n as usize {
-        return POLICY_BLOCKS;
-    }
-    n as usize
+    (usize::from(low) + 256 * usize::from(high)).clamp(1, POLICY_BLOCKS)
 }
 
 // How many blocks to lend for a table: none for a number that no table has.
@@ -36,11 +29,8 @@ fn lent(low: u8, high: u8) -> usize
     ensures within { result ≤ table_blocks }
     ensures value { result ≡ lent low high }
 {
-    let n = wide(low) + 256 * wide(high);
-    if TABLE_BLOCKS < n as usize {
-        return 0;
-    }
-    n as usize
+    let n = usize::from(low) + 256 * usize::from(high);
+    if TABLE_BLOCKS < n { 0 } else { n }
 }
 
 // Reads until the buffer is full or the input ends. Says how many bytes there were.
@@ -97,26 +87,27 @@ fn print_number<W: Write>(out: &mut W, n: u32) -> io::Result<()>
 }
 
 // A line: the ordinal, then `grant` with its three numbers or `refuse` with its number and two places.
-fn print_line<W: Write>(out: &mut W, ordinal: u64, reply: Reply) -> io::Result<()>
-    ensures { OnOk result (Appends (W.contents out.old) (W.contents out.new) (line ordinal (answer_of reply))) }
+fn print_line<W: Write>(
+    out: &mut W,
+    ordinal: u64,
+    answer: Result<Grant, Refusal>,
+) -> io::Result<()>
+    ensures { OnOk result (Appends (W.contents out.old) (W.contents out.new) (line ordinal (granted_of answer))) }
 {
     write!(out, "{ordinal}")?;
-    match reply {
-        Reply::Granted(g) => {
+    match answer {
+        Ok(g) => {
             out.write_all(b" grant")?;
             print_number(out, g.recorded)?;
             print_number(out, g.removed)?;
             print_number(out, g.held)?;
         }
-        Reply::Refused(r) => {
+        Err(refusal) => {
+            let r = SodReply::from(refusal);
             out.write_all(b" refuse")?;
             print_number(out, r.number)?;
             print_number(out, r.first)?;
             print_number(out, r.second)?;
-        }
-        Reply::Accepted(n) => {
-            out.write_all(b" accept")?;
-            print_number(out, n)?;
         }
     }
     out.write_all(b"\n")
@@ -155,11 +146,9 @@ fn session<R: Read, W: Write>(
     ensures lines { OnOk result (IfSome (R.remaining input.old) (λ xs. Appends (W.contents out.old) (W.contents out.new) (session_text policy.now table.old xs))) }
     ensures table { Decided policy.now (make_table policy.now table.old).state table.new }
 {
-    let made = make_table(policy, table);
-    match made {
-        Reply::Accepted(_) => decide_all(input, out, policy, table),
-        Reply::Granted(_) => print_line(out, 0, made),
-        Reply::Refused(_) => print_line(out, 0, made),
+    match make_table(policy, table) {
+        Ok(_) => decide_all(input, out, policy, table),
+        Err(refusal) => print_line(out, 0, Err(refusal)),
     }
 }
 

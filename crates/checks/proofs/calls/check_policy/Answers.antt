@@ -1,21 +1,14 @@
-use mathlib.Core.Path.{sym, ap, ◌∙◌}
-use native.Mathlib.Omega.{arith}
-use Rattle.format.specs.Code.{fault_of}
-use Rattle.policy_check.proofs.Lengths.{policy-blocked}
+use mathlib.Core.Path.{sym}
+use Rattle.std.proofs.lemmas.Result.{err_from_is_err_and}
 use Rattle.checks.proofs.Checked.{policy-refused, policy-accepted}
 use Rattle.checks.proofs.calls.check_policy.Goals as goal
 
-pub rule_count-requires : goal.rule_count-requires
-rule_count-requires c =
-    let f = c.policy_fault-fault in
-    omega (arith, (policy-blocked _ (sym f.ensures ∙ ap fault_of c.in-Nothing.is)).2)
+pub returns-in_err-checked : goal.returns-in_err-checked
+returns-in_err-checked c =
+    let p = err_from_is_err_and c.from_residual.result c.from_residual.ensures.1 in
+    rw (p.1, p.2) (policy-refused _ _ (sym c.in_err-checked.ensures.fault))
 
-pub returns-in-At : goal.returns-in-At
-returns-in-At c =
-    let f = c.policy_fault-fault in
-    policy-refused _ _ (sym f.ensures ∙ ap fault_of c.in-At.is)
-
-pub returns-in-Nothing : goal.returns-in-Nothing
-returns-in-Nothing c =
-    let f = c.policy_fault-fault in
-    policy-accepted _ _ (sym f.ensures ∙ ap fault_of c.in-Nothing.is) c.rule_count.ensures
+pub returns : goal.returns
+returns c =
+    let k = c.in_ok-checked in
+    policy-accepted _ _ (sym k.ensures.fault) (rw k.ensures.image at k.checked.rules_are)

@@ -26,7 +26,7 @@ returns-then-is_empty c =
       after-few a.ending.each a.q.now a.ending.rules.0 a.gives.0 (records_here a.table.now a.n),
       length-here a.table.now a.n,
       recorded-none a.gives.0 (eqb-true a.gives.0 0 (sym c.is_empty.ensures ∙ c.if-is_empty.true)),
-      c.requires.q_len.1,
+      c.requires.n_le_room,
     )))
 
 pub returns-then-n-room : goal.returns-then-n-room

@@ -24,8 +24,8 @@ overflow_add-result c =
         c.kept-left.ensures,
         left-few a.ending.each a.q.now a.ending.rules.0 (records_here a.table.now a.n),
         length-here a.table.now a.n,
-        c.requires.has_room.0.few,
-        c.requires.has_room.0.most,
+        c.requires.room.few,
+        c.requires.room.most,
       );
     }
 

@@ -24,22 +24,10 @@ room h =
     let long = h.loop-i.invariant.1.0 in
     record { whole = omega (arith, long, r.whole); most = omega (arith, long, r.most); few = omega (arith, long, r.few) }
 
-pub record_start-requires : goal.record_start-requires
-record_start-requires c = let r = room (goal.at.record_start-requires c).At-loop-i in omega (arith, c.loop-i-test.true, r.few, r.most)
-
-pub marks-marks-requires : goal.marks-marks-requires
-marks-marks-requires c =
-    let r = room (goal.at.marks-marks-requires c).At-loop-i in
-    omega (arith, c.record_start.ensures, c.loop-i-test.true, r.few, r.whole)
-
 pub place-changed-requires : goal.place-changed-requires
 place-changed-requires c =
     let r = room (goal.at.place-changed-requires c).At-loop-i in
     (c.loop-i.invariant.0.2, record { whole = r.whole; most = r.most; few = omega (arith, c.loop-i-test.true, r.few) })
-
-pub overflow_add-held : goal.overflow_add-held
-overflow_add-held c =
-    omega (arith, c.loop-i-test.true, c.loop-i.invariant.0.2)
 
 pub loop-i-preserved : goal.loop-i-preserved
 loop-i-preserved c =

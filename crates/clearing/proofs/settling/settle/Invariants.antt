@@ -1,11 +1,8 @@
-use Prim.Native.Nat.{◌-◌, ◌≤◌}
-use Rattle.clearing.specs.Cleared.{left_by}
+use Prim.Native.Nat.{◌*◌, min}
+use Rattle.clearing.specs.Cleared.{left_of}
 use Rattle.clearing.specs.Settling.{Settling}
 use Rattle.clearing.proofs.settling.settle.Given as goal
 
-abbrev pub invariant-loop-i : goal.invariant-loop-i
-invariant-loop-i l =
-    (l.i ≤ l.n) × Settling (left_by l.ending.each l.q l.ending.rules.0) l.initial.table l.i l.table l.settled.held l.settled.changed
-
-abbrev pub decreases-loop-i : goal.decreases-loop-i
-decreases-loop-i l = l.n - l.i
+-- the records of the blocks that were passed are settled
+abbrev pub invariant-loop-k : goal.invariant-loop-k
+invariant-loop-k l = Settling (left_of l.ending l.q) l.initial.table (min l.n (15 * l.k)) l.table l.settled.held l.settled.changed

@@ -8,7 +8,7 @@ use Rattle.history.proofs.finding.find.Goals.{then-same_user, else-same_user, Af
 use Rattle.history.proofs.finding.find.Goals as goal
 
 pub loop-k-init : goal.loop-k-init
-loop-k-init c = let a = c.args in (omega arith, pass-start a.each a.fitting.0 a.q.now a.table.now c.none-near.result a.found.now)
+loop-k-init c = let a = c.args in (omega arith, pass-start a.each a.fitting.0 a.q.now a.table.now c.none-near.result a.room.now)
 
 pub record_start-at-requires : goal.record_start-at-requires
 record_start-at-requires c =
@@ -25,7 +25,7 @@ module _ (c : After-record_start-at) where
       omega (arith, start-few c.args.table.now c.args.n c.requires.has_room c.loop-k.k (omega arith), c.record_start-at.ensures)
 
 pub shared_at-shared-requires : goal.shared_at-shared-requires
-shared_at-shared-requires c = (c.requires.q_len.0, inside c)
+shared_at-shared-requires c = inside c
 
 pub loop-k-preserved-then-is_empty : goal.loop-k-preserved-then-is_empty
 loop-k-preserved-then-is_empty c =
@@ -42,17 +42,17 @@ with-near-requires c =
 pub same_user-requires : goal.same_user-requires
 same_user-requires c = omega (arith, inside (goal.at.same_user-requires c).After-record_start-at)
 
-pub overflow_cast-found : goal.overflow_cast-found
-overflow_cast-found c = omega (arith, low (goal.at.overflow_cast-found c).After-record_start-at)
+pub overflow_cast-room : goal.overflow_cast-room
+overflow_cast-room c = omega (arith, low (goal.at.overflow_cast-room c).After-record_start-at)
 
 -- there is room for it
-spare : (c : Then-same_user) → let l = c.loop-k in l.count < length l.found
+spare : (c : Then-same_user) → let l = c.loop-k in l.count < length l.room
 spare c =
     let l = c.loop-k in
-    omega (arith, l.invariant.1.few, l.invariant.1.sized, c.requires.q_len.1)
+    omega (arith, l.invariant.1.few, l.invariant.1.sized, c.requires.room_len)
 
-pub bounds-found-count : goal.bounds-found-count
-bounds-found-count c = spare c
+pub bounds-room-count : goal.bounds-room-count
+bounds-room-count c = spare c
 
 pub overflow_add-count : goal.overflow_add-count
 overflow_add-count c = omega (arith, c.loop-k.invariant.1.few)
@@ -69,20 +69,17 @@ loop-k-preserved c =
       omega arith,
       elim c.if-same_user.branch [
         | then-same_user d ↦
-            rw (d.count-is, d.found-is)
+            rw (d.count-is, d.room-is)
             (pass-found a.each a.fitting.0 a.q.now a.table.now here shared l.invariant.1 some c.or-open.ensures c.with-near.result c.with-near.ensures
-            (of-user a.q.now x c.requires.q_len.0 who c.same_user.ensures d.if-same_user.true) (omega (arith, l.invariant.1.few, l.invariant.1.sized, c.requires.q_len.1)))
+            (of-user a.q.now x c.told-q who c.same_user.ensures d.if-same_user.true) (omega (arith, l.invariant.1.few, l.invariant.1.sized, c.requires.room_len)))
         | else-same_user d ↦
-            rw (d.count-is, d.found-is)
+            rw (d.count-is, d.room-is)
             (pass-other a.each a.fitting.0 a.q.now a.table.now here shared l.invariant.1 some c.or-open.ensures c.with-near.result c.with-near.ensures
-            (of-user a.q.now x c.requires.q_len.0 who c.same_user.ensures d.if-same_user.false))
+            (of-user a.q.now x c.told-q who c.same_user.ensures d.if-same_user.false))
       ],
     )
-
-pub shape_of-found : goal.shape_of-found
-shape_of-found c = c.loop-k.invariant.1.sized
 
 pub returns : goal.returns
 returns c =
     let a = c.args in
-    pass-end a.each a.fitting.0 a.q.now a.table.now (omega arith) c.loop-k.invariant.1
+    pass-end a.each a.fitting.0 a.q.now a.table.now (omega arith) c.requires.room_len c.loop-k.invariant.1

@@ -4,4 +4,4 @@ use Rattle.matching.proofs.fits.fits.Goals as goal
 
 pub returns : goal.returns
 unfolding fits rule_at
-returns c = rw (c.depth.ensures, c.levels_fit.ensures, c.wide-levels.ensures.0)
+returns c = rw (c.depth.ensures, c.levels_fit.ensures, c.from.ensures, c.from-2.ensures)

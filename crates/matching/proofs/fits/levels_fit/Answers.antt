@@ -19,7 +19,7 @@ loop-i-preserved c =
     let a = c.args in
     let i = c.loop-i.i in
     let four : i < 4 = omega arith in
-    let bytes : (j : ℕ) → Byte (get_or a.s.now j 0) = λ j. (c.shared_slice_known-2-1.given j).fits in
+    let bytes : (j : ℕ) → Byte (get_or a.s.now j 0) = λ j. (c.type_inv.s j).fits in
     (omega arith, rw (add-one i) (cc (type-word a.s.now a.at i four bytes, value-word a.s.now a.at i four bytes)))
 
 pub returns : goal.returns

@@ -16,10 +16,10 @@ value_of q l e h = ap (λ (x : List ℕ). level_value (context_of x) l) (sym (pa
 
 module _ (c : After-u16_at-2) where
   here : level_value (context_of c.args.q.now) c.args.l ≡ c.u16_at.result
-  here = let s = (goal.at.After-u16_at-2 c).Start in value_of s.args.q.now s.args.l s.requires.0 s.requires.1.1 ∙ sym c.u16_at.ensures.0
+  here = let s = (goal.at.After-u16_at-2 c).Start in value_of s.args.q.now s.args.l s.told-q s.requires.1 ∙ sym c.u16_at.ensures.0
 
   there : level_value (context_of (part c.args.s.now c.args.at 28)) c.args.l ≡ c.u16_at-2.result
-  there = let s = (goal.at.After-u16_at-2 c).Start in value-at s.args.s.now s.args.at s.args.l s.requires.1.1 ∙ sym c.u16_at-2.ensures.0
+  there = let s = (goal.at.After-u16_at-2 c).Start in value-at s.args.s.now s.args.at s.args.l s.requires.1 ∙ sym c.u16_at-2.ensures.0
 
 pub returns-then-u16_at : goal.returns-then-u16_at
 returns-then-u16_at c = rw (here (goal.at.returns-then-u16_at c).After-u16_at-2, there (goal.at.returns-then-u16_at c).After-u16_at-2) (rw (eq-eqb c.u16_at.result c.u16_at-2.result c.if-u16_at.true))

@@ -6,4 +6,4 @@ use Rattle.matching.specs.Masks.{is_each}
 use Rattle.matching.proofs.masks.each_at.Given as goal
 
 abbrev pub invariant-loop-i : goal.invariant-loop-i
-invariant-loop-i l = (l.i ≤ l.rules) × (l.mask ≡ bits l.i (is_each (policy_of l.policy) l.l))
+invariant-loop-i l = (l.i ≤ l.rules) × (l.mask ≡ bits l.i (is_each (policy_of l.policy.image.now) l.l))

@@ -26,4 +26,4 @@ those f policy q n = bits n (λ i. f q (block policy i))
 
 abbrev pub invariant-loop-i : goal.invariant-loop-i
 invariant-loop-i l =
-    (l.i ≤ l.rules) × ((l.fitting ≡ those fit l.policy l.q l.i) × ((l.starting ≡ those start l.policy l.q l.i) × (l.last ≡ those final l.policy l.q l.i)))
+    (l.i ≤ l.rules) × ((l.fitting ≡ those fit l.policy.image.now l.q l.i) × ((l.starting ≡ those start l.policy.image.now l.q l.i) × (l.last ≡ those final l.policy.image.now l.q l.i)))

@@ -14,6 +14,6 @@ pub returns : goal.returns
 unfolding does
 returns c =
     let start = (goal.at.returns c).Start in
-    let done = c.privilege.ensures ∙ ap (λ (q : Request). done_by q) (part-whole start.args.q.now 28 start.requires.1) in
+    let done = c.privilege.ensures ∙ ap (λ (q : Request). done_by q) (part-whole start.args.q.now 28 start.told-q) in
     ap (λ (t : Bool). eqb (byte_at start.args.b.now start.args.flag) 1 && t)
-    (c.same.ensures ∙ ap₂ {C = Bool} same_privilege done c.read.ensures)
+    (c.eq.ensures ∙ ap₂ {C = Bool} same_privilege done c.read.ensures)

@@ -1,7 +1,7 @@
-use Rattle.std.proofs.Common.{◌≡◌, ◌≤◌, length}
-use Rattle.rule_tests.proofs.Made.{Made}
-use Rattle.rule_tests.proofs.Bounded.{bound_number}
+use Rattle.std.proofs.Common.{◌≡◌, length}
+use Rattle.format.specs.Policy.{policy_of}
+use Rattle.rule_tests.specs.Bounds.{Bounds}
 use Rattle.rule_tests.proofs.bounds.bounds_of.Given as goal
 
-abbrev pub invariant-loop-k : goal.invariant-loop-k
-invariant-loop-k l = (l.k ≤ l.n) × ((length l.out ≡ 256) × Made (bound_number l.policy) l.out l.k)
+abbrev pub invariant-loop-i : goal.invariant-loop-i
+invariant-loop-i l = (length l.out ≡ 32) × Bounds (policy_of l.policy.image.now) l.i l.out

@@ -1,8 +1,7 @@
-use Rattle.std.proofs.Common.{arith}
 use Rattle.format.specs.Rule.{rule_at}
 use Rattle.rule_tests.specs.Shapes.{level_want}
 use Rattle.rule_tests.proofs.shapes.level_want.Goals as goal
 
 pub returns : goal.returns
 unfolding level_want rule_at
-returns c = (cc, omega (arith, c.u16_at.ensures.1, c.u16_at-2.ensures.1))
+returns c = cc

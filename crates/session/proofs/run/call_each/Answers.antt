@@ -13,7 +13,8 @@ loop-i-preserved c =
       search rules,
       search rules,
       search rules,
-      running_more _ _ _ _ _ asked.0 l.i l.at _ _ _ _ _ _ l.invariant.4 (omega arith) (omega arith) (omega arith) (omega (arith, c.end_of-end.ensures)) c.call-answer.ensures c.put_answer.ensures,
+      running_more _ _ _ _ _ asked.0 l.i l.at _ _ _ _ _ (step c).answer l.invariant.4 (omega arith) (omega arith) (omega arith) (omega (arith, c.end_of-end.ensures))
+      (ap (λ s. outcome (step c).answer s) c.call-answer.ensures.1) (c.put_answer.ensures ∙ ap (λ f. sets l.answers (4 * l.i) (in-turn f)) c.call-answer.ensures.0),
     )
 
 pub returns : goal.returns

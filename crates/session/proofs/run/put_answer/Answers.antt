@@ -1,21 +1,19 @@
-use Rattle.session.specs.Session.{four_numbers}
-use Rattle.session.proofs.Turns.{known-four}
+use native.Mathlib.Omega.{arith}
+use native.Mathlib.Numerals.{add-one, add-two, add-three}
+use lib.ListN.{length-set}
 use Rattle.session.proofs.run.put_answer.Goals as goal
 
-pub returns-in-Accepted : goal.returns-in-Accepted
-unfolding four_numbers
-returns-in-Accepted c =
-    let a = c.args in
-    known-four a.answers.now a.at c.put_four.ensures c.in-Accepted.is
+pub bounds-answers-at-2 : goal.bounds-answers-at-2
+bounds-answers-at-2 c = simp length-set (omega arith)
 
-pub returns-in-Granted : goal.returns-in-Granted
-unfolding four_numbers
-returns-in-Granted c =
-    let a = c.args in
-    known-four a.answers.now a.at c.put_four-in-Granted.ensures c.in-Granted.is
+pub bounds-answers-at-3 : goal.bounds-answers-at-3
+bounds-answers-at-3 c = simp length-set (omega arith)
 
-pub returns-in-Refused : goal.returns-in-Refused
-unfolding four_numbers
-returns-in-Refused c =
-    let a = c.args in
-    known-four a.answers.now a.at c.put_four-in-Refused.ensures c.in-Refused.is
+pub bounds-answers-at-4 : goal.bounds-answers-at-4
+bounds-answers-at-4 c = simp length-set (omega arith)
+
+pub shape_of-answers : goal.shape_of-answers
+shape_of-answers c = simp length-set
+
+pub returns : goal.returns
+returns c = rw (add-one, add-two, add-three)

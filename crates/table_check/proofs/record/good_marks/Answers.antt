@@ -1,50 +1,41 @@
-use Prim.Native.Nat.{ℕ, ◌+◌}
-use native.Mathlib.Omega.{arith}
 use mathlib.Core.Path.{◌≡◌, sym, ◌∙◌}
 use mathlib.Core.Bool.{true}
-use lib.ListN.{get_or}
+use Rattle.std.proofs.Common.{rules, get_or, ◌+◌}
 use Rattle.words.specs.Bytes.{u32_at}
-use Rattle.word_laws.proofs.Bytes.{Byte}
-use Rattle.rule_tests.specs.Shapes.{shape_fits, marks_within}
-use Rattle.rule_tests.specs.Bounds.{bounds_fit}
-use Rattle.table_check.proofs.Marked.{marks-outside, levels_at, paired-levels, pass-as, by-shapes, by-bounds}
-use Rattle.table_check.proofs.record.good_marks.Goals.{After-two_levels-high, Else-not-marks_within}
+use Rattle.format.specs.Policy.{policy_of}
+use Rattle.rule_tests.specs.Shapes.{no_shape, shape_fits, marks_within}
+use Rattle.rule_tests.specs.Bounds.{no_bound, bound_fits}
+use Rattle.table_check.proofs.Marked.{marks-outside, by-shapes, by-bounds}
+use Rattle.table_check.proofs.record.good_marks.Goals.{Else-not-marks_within}
 use Rattle.table_check.proofs.record.good_marks.Goals as goal
 
-within : (c : Else-not-marks_within) → let a = c.args in marks_within a.rules (u32_at a.s.now (a.at + 28)) ≡ true
-within c =
-    let found = c.marks-set.ensures in
-    sym (rw found at c.marks_within.ensures) ∙ c.if-not-marks_within.false
-
-bytes : (c : Else-not-marks_within) → (j : ℕ) → Byte (get_or c.args.s.now j 0)
-bytes c j = (c.shared_slice_known-2-1.given j).fits
-
--- the two pairs of levels that were read
-low-is : (c : After-two_levels-high) → let a = c.args in c.two_levels-low.result ≡ levels_at a.s.now a.at 0
-low-is c = let a = c.args in c.two_levels-low.ensures ∙ paired-levels a.s.now a.at (a.at + 12) 0 (omega arith)
-
-high_is : (c : After-two_levels-high) → let a = c.args in c.two_levels-high.result ≡ levels_at a.s.now a.at 2
-high_is c = let a = c.args in c.two_levels-high.ensures ∙ paired-levels a.s.now a.at (a.at + 20) 2 (omega arith)
+within : (c : Else-not-marks_within) → let a = c.args in marks_within a.tests.now.policy.rules (u32_at a.s.now (a.at + 28)) ≡ true
+within c = sym (rw c.marks-set.ensures at c.marks_within.ensures) ∙ c.if-not-marks_within.false
 
 pub returns-then-not-marks_within : goal.returns-then-not-marks_within
+unfolding policy_of
 returns-then-not-marks_within c =
     let a = c.args in
-    let found = c.marks-set.ensures in
-    λ p of request.
-    sym (marks-outside p a.rules of.shaped.count a.s.now a.at (sym (rw found at c.marks_within.ensures) ∙ c.if-not-marks_within.true))
+    let policy = a.tests.now.policy in
+    λ request.
+    sym (marks-outside (policy_of policy.image.now) policy.rules policy.rules_are a.s.now a.at (sym (rw c.marks-set.ensures at c.marks_within.ensures) ∙ c.if-not-marks_within.true))
 
-pub returns-then-bounds-eq-BOUNDS : goal.returns-then-bounds-eq-BOUNDS
-returns-then-bounds-eq-BOUNDS c =
+pub returns-in-Shapes : goal.returns-in-Shapes
+returns-in-Shapes c =
     let a = c.args in
-    λ p of request.
-    c.marks_bounded.ensures
-    ∙ pass-as (bounds_fit a.bounds.now) _ _ _ _ _ _ (low-is (goal.at.returns-then-bounds-eq-BOUNDS c).After-two_levels-high) (high_is (goal.at.returns-then-bounds-eq-BOUNDS c).After-two_levels-high) c.marks-set.ensures
-    ∙ by-bounds p a.rules a.shapes.now a.bounds.now of a.s.now a.at (bytes (goal.at.returns-then-bounds-eq-BOUNDS c).Else-not-marks_within) request (within (goal.at.returns-then-bounds-eq-BOUNDS c).Else-not-marks_within) c.if-bounds-eq-BOUNDS.true
+    let t = a.tests.now in
+    let shapes = c.in-Shapes.shapes in
+    λ request.
+    c.marks_pass.ensures (λ i. shape_fits (get_or shapes.now i no_shape) c.read-levels.result) (λ i b h k. search rules)
+    ∙ rw (c.read-levels.ensures, c.marks-set.ensures)
+    (by-shapes t.policy.image.now t.policy.accepted t.policy.rules t.policy.rules_are a.s.now a.at (λ j. (c.type_inv.s j).fits) request (within (goal.at.returns-in-Shapes c).Else-not-marks_within) shapes (rw c.in-Shapes.is at t.made))
 
-pub returns : goal.returns
-returns c =
+pub returns-in-Bounds : goal.returns-in-Bounds
+returns-in-Bounds c =
     let a = c.args in
-    λ p of request.
-    c.marks_shaped.ensures
-    ∙ pass-as (shape_fits a.shapes.now) _ _ _ _ _ _ (low-is (goal.at.returns c).After-two_levels-high) (high_is (goal.at.returns c).After-two_levels-high) c.marks-set.ensures
-    ∙ by-shapes p a.rules a.shapes.now a.bounds.now of a.s.now a.at (bytes (goal.at.returns c).Else-not-marks_within) request (within (goal.at.returns c).Else-not-marks_within) c.if-bounds-eq-BOUNDS.false
+    let t = a.tests.now in
+    let bounds = c.in-Bounds.bounds in
+    λ request.
+    c.marks_pass-in-Bounds.ensures (λ i. bound_fits (get_or bounds.now i no_bound) c.read-levels.result) (λ i b h k. search rules)
+    ∙ rw (c.read-levels.ensures, c.marks-set.ensures)
+    (by-bounds t.policy.image.now t.policy.accepted t.policy.rules t.policy.rules_are a.s.now a.at (λ j. (c.type_inv.s j).fits) request (within (goal.at.returns-in-Bounds c).Else-not-marks_within) bounds (rw c.in-Bounds.is at t.made))

@@ -1,12 +1,13 @@
-use Prim.Native.Nat.{◌-◌, ◌≤◌}
+use Prim.Native.Nat.{◌-◌}
 use mathlib.Core.Path.{◌≡◌}
 use Rattle.words.specs.First.{first}
-use Rattle.sums.specs.Code.{sums_of}
-use Rattle.format.specs.Policy.{Policy}
+use Rattle.format.specs.Policy.{policy_of, stamp}
 use Rattle.format.specs.Table.{table_block_fault}
 use Rattle.table_check.specs.CheckParts.{short_before}
-use Rattle.rule_tests.specs.Bounds.{Tests}
 use Rattle.table_check.proofs.tables.blocks_fault.Given as goal
 
 abbrev pub invariant-loop-k : goal.invariant-loop-k
-invariant-loop-k l = (l.k ≤ l.n) × ((l.short ≡ short_before l.table l.k) × ((p : Policy) → Tests p l.checked.rules l.shapes l.bounds → first (table_block_fault p (sums_of l.checked.stamp) l.table) l.k (l.n - l.k) ≡ first (table_block_fault p (sums_of l.checked.stamp) l.table) 0 l.n))
+invariant-loop-k l =
+    let image = l.tests.policy.image.now in
+    let fault = table_block_fault (policy_of image) (stamp image) l.table in
+    (l.short ≡ short_before l.table l.k) × (first fault l.k (l.n - l.k) ≡ first fault 0 l.n)

@@ -1,28 +1,23 @@
-use native.Mathlib.Omega.{arith}
-use mathlib.Core.Path.{◌≡◌, sym, ◌∙◌}
-use lib.ListN.{length}
-use Rattle.word_laws.proofs.Joined.{joined-start, joined-more, joined-done}
-use Rattle.format.specs.Block.{block, blocks}
-use Rattle.format.specs.Table.{records_of}
-use Rattle.format_laws.proofs.BlockImage.{records_in}
-use Rattle.table_check.proofs.TableBlock.{records-at}
+use Rattle.std.proofs.Common.{◌≡◌, ℕ, ◌+◌, ◌*◌, ◌/◌, ◌^◌, ◌∙◌, refl, length, arith, rules}
+use Rattle.std.proofs.lemmas.Iterator.{YieldsList-from_range, YieldsList-from_map}
+use Rattle.std.proofs.lemmas.Iterator.Consumers.{sum_by_from_yields_List, fits_by_from_yields_list}
+use Rattle.std.specs.List.{range_with_len}
+use Rattle.words.specs.Bytes.{u16_at}
+use Rattle.table_check.proofs.Counted.{counts-are, counts-few}
 use Rattle.table_check.proofs.tables.record_count.Goals as goal
 
-pub loop-k-init : goal.loop-k-init
-unfolding records_of
-loop-k-init c =
+pub sum-requires-clause-fits : goal.sum-requires-clause-fits
+sum-requires-clause-fits c =
     let s = c.args.table.now in
-    (omega arith, (omega arith, joined-start (λ j. records_in (block s j)) (blocks s)))
-
-pub loop-k-preserved : goal.loop-k-preserved
-loop-k-preserved c =
-    let s = c.args.table.now in
-    let l = c.loop-k in
-    let e : c.u16_at.result ≡ length (records_in (block s l.k)) = c.u16_at.ensures.0 ∙ sym (records-at s l.k) in
-    (omega arith, (omega arith, rw e (joined-more (λ j. records_in (block s j)) l.k (blocks s) l.records l.invariant.1.1 (omega arith))))
+    let n = length s / 512 in
+    fits_by_from_yields_list (λ k. u16_at s (512 * k + 8)) (range_with_len 0 n) c.map.result (2 ^ 64)
+    (YieldsList-from_map _ (λ k. u16_at s (512 * k + 8)) (YieldsList-from_range 0 n n c.map.ensures.source (omega arith)) c.map.ensures.closure (λ x r q k. search rules))
+    (omega (arith, counts-few s (λ j. (c.type_inv.table j).fits)))
 
 pub returns : goal.returns
 returns c =
     let s = c.args.table.now in
-    let l = c.loop-k in
-    joined-done (λ j. records_in (block s j)) l.k (blocks s) l.records l.invariant.1.1 (omega arith)
+    let n = length s / 512 in
+    sum_by_from_yields_List (λ k. u16_at s (512 * k + 8)) (range_with_len 0 n) c.map.result c.sum.result c.sum.ensures.ran
+    (YieldsList-from_map _ (λ k. u16_at s (512 * k + 8)) (YieldsList-from_range 0 n n c.map.ensures.source (omega arith)) c.map.ensures.closure (λ x r q k. search rules))
+    ∙ counts-are s

@@ -1,11 +1,12 @@
-use Prim.Native.Nat.{◌-◌, ◌≤◌}
+use Prim.Native.Nat.{◌-◌}
 use mathlib.Core.Path.{◌≡◌}
 use Rattle.words.specs.First.{first}
+use Rattle.format.specs.Policy.{policy_of}
 use Rattle.format.specs.Table.{count}
-use Rattle.format.specs.Policy.{Policy}
 use Rattle.table_check.specs.CheckParts.{record_fault_at, records_fault}
-use Rattle.rule_tests.specs.Bounds.{Tests}
 use Rattle.table_check.proofs.tables.records_fault.Given as goal
 
 abbrev pub invariant-loop-i : goal.invariant-loop-i
-invariant-loop-i l = (l.i ≤ l.n) × ((l.n ≡ count l.b) × ((p : Policy) → Tests p l.rules l.shapes l.bounds → first (record_fault_at p l.k l.b) l.i (l.n - l.i) ≡ records_fault p l.k l.b))
+invariant-loop-i l =
+    let p = policy_of l.tests.policy.image.now in
+    (l.n ≡ count l.b) × (first (record_fault_at p l.k l.b) l.i (l.n - l.i) ≡ records_fault p l.k l.b)

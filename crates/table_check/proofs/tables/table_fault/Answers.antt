@@ -26,25 +26,22 @@ unfolding table_fault table_length_fault
 returns-then-not-good_length c = sym (test-fails (refusal 11 0 0) _ (sym c.good_length.ensures ∙ c.if-not-good_length.true))
 
 pub ranged_fault-requires : goal.ranged_fault-requires
-ranged_fault-requires c = record { checked_is = c.requires; table_len_bound = short (goal.at.ranged_fault-requires c).Else-not-good_length }
+ranged_fault-requires c = short (goal.at.ranged_fault-requires c).Else-not-good_length
 
 pub returns-then-not-are_plain : goal.returns-then-not-are_plain
 unfolding table_fault table_length_fault
 returns-then-not-are_plain c =
-    rw c.requires.stamp-is at (c.ranged_fault.ensures c.shapes_of.ensures)
-    ∙ sym (test-passes (refusal 11 0 0) _ (sized (goal.at.returns-then-not-are_plain c).Else-not-good_length))
+    c.ranged_fault.ensures ∙ sym (test-passes (refusal 11 0 0) _ (sized (goal.at.returns-then-not-are_plain c).Else-not-good_length))
+
+pub invariant_of-tests : goal.invariant_of-tests
+invariant_of-tests c =
+    let policy = c.args.policy.now in
+    let all = sym c.are_plain.ensures ∙ c.if-not-are_plain.false in
+    record { made = ∣ (c.shapes_of.ensures, λ i h. all_below-at policy.rules i (λ (j : ℕ). plain ((policy_of policy.image.now).rule j)) all h) ∣₁ }
 
 pub blocks_fault-requires : goal.blocks_fault-requires
 blocks_fault-requires c = short (goal.at.blocks_fault-requires c).Else-not-good_length
 
 pub returns : goal.returns
 unfolding table_fault table_length_fault
-returns c =
-    let all = sym c.are_plain.ensures ∙ c.if-not-are_plain.false in
-    rw c.requires.stamp-is at (c.blocks_fault.ensures (policy_of c.args.policy.now)
-    (record {
-      shaped = c.shapes_of.ensures;
-      bounded = λ e. absurd (omega arith);
-      unbounded = λ e i h. all_below-at c.args.checked.rules i (λ (j : ℕ). plain ((policy_of c.args.policy.now).rule j)) all h;
-    }))
-    ∙ sym (test-passes (refusal 11 0 0) _ (sized (goal.at.returns c).Else-not-good_length))
+returns c = c.blocks_fault.ensures ∙ sym (test-passes (refusal 11 0 0) _ (sized (goal.at.returns c).Else-not-good_length))

@@ -1,19 +1,16 @@
-use Rattle.word_laws.proofs.Below.{any-more, any-all}
-use Rattle.tally.specs.Code.{repeated}
-use Rattle.words.specs.Lists.{any_below}
-use native.Mathlib.Omega.{arith}
-use mathlib.Core.Path.{refl}
+use Rattle.std.proofs.Common.{rules}
+use Rattle.std.proofs.lemmas.Iterator.{YieldsList-from_slice}
+use Rattle.std.proofs.lemmas.Iterator.Search.{any_from_yields_List}
+use Rattle.tally.specs.declared.counting.Counted.{Counted}
+use Rattle.tally.specs.Code.{member_at, repeated}
+use borrow.Author.Tests.{tests}
+use lib.Dec.{eqb}
+use lib.ListN.{take}
 use Rattle.tally.proofs.counting.repeats.Goals as goal
-
-pub loop-j-init : goal.loop-j-init
-unfolding any_below
-loop-j-init c = (omega arith, refl)
-
-pub loop-j-preserved : goal.loop-j-preserved
-loop-j-preserved c =
-    let l = c.loop-j in
-    (omega arith, any-more _ l.j l.found _ l.invariant.1 refl)
 
 pub returns : goal.returns
 unfolding repeated
-returns c = any-all _ c.loop-j.j c.args.k _ c.loop-j.invariant.1 (omega arith)
+returns c =
+    let a = c.args in
+    any_from_yields_List (λ (m : Counted). eqb m.privilege.0 (member_at a.members.now a.k)) _ _ _ c.any.ensures.ran
+    (YieldsList-from_slice (take a.k a.members.now) c.iter.ensures.rest) (λ x b q k. search (rules, tests))

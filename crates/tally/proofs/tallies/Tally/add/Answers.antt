@@ -1,28 +1,28 @@
-use Rattle.tally.proofs.Taken.{counting-none, counting_more, roles-taken, done-taken}
+use Rattle.tally.proofs.Taken.{is_next, counting-none, counting_more, roles-taken, done-taken}
 use native.Mathlib.Omega.{arith}
-use mathlib.Core.Path.{refl, ap, ◌∙◌}
-use Prim.Native.Nat.{ℕ, ◌+◌, ◌%◌}
-use lib.ListN.{get_or}
+use mathlib.Core.Path.{◌≡◌, refl, ap, ◌∙◌}
+use lib.Bits.{bit_or}
+use Rattle.tally.specs.declared.deed.Deed.{Deed}
 use Rattle.tally.proofs.tallies.Tally.add.Goals as goal
 
-pub returns-then-self-eq1 : goal.returns-then-self-eq1
-returns-then-self-eq1 c x qs q of few e d small =
+pub returns-then-self-eq-OF_ROLES : goal.returns-then-self-eq-OF_ROLES
+returns-then-self-eq-OF_ROLES c x qs q of few e small =
     let a = c.args in
-    roles-taken x qs q a.self _ of refl refl a.roles.0 c.if-self-eq1.true refl e c.or-self.ensures
+    roles-taken x qs q a.self _ of refl c.if-self-eq-OF_ROLES.true refl
+    (c.or-self.ensures ∙ ap (λ (d : Deed). bit_or a.self.roles.0 d.roles.0) e)
 
-pub loop-k-init : goal.loop-k-init
-loop-k-init c = (omega arith, λ e. counting-none _ _)
+pub loop-member-init : goal.loop-member-init
+loop-member-init c = counting-none c.args.self.members c.args.deed.privilege.0
 
-pub loop-k-preserved : goal.loop-k-preserved
-loop-k-preserved c =
-    let l = c.loop-k in
-    let a = c.args in
-    let v = ap (λ (n : ℕ). get_or l.self.times l.k 0 % 65536 + n) c.one_if.ensures.0 in
-    (omega arith, λ e. counting_more a.self l.self a.done.0 l.k _ (l.invariant.1 e) (omega (arith, (l.invariant.1 e).same_length)) v)
+pub loop-member-preserved : goal.loop-member-preserved
+loop-member-preserved c =
+    let l = c.loop-member in
+    let e = c.after.ensures in
+    counting_more c.args.self.members l.member-items c.args.deed.privilege.0 l.member-index _ l.invariant (omega (arith, l.invariant.same_length)) (is_next _ _ c.after.result e.0 e.1)
 
 pub returns : goal.returns
-returns c x qs q of few e d small =
+returns c x qs q of few e small =
     let a = c.args in
-    let l = c.loop-k in
-    let inv = l.invariant.1 of.counted in
-    done-taken x qs q a.self l.self of inv.same_kind inv.same-members a.done.0 c.if-self-eq1.false (inv.same_length ∙ of.counted) few small d (λ k h. inv.before k (omega arith))
+    let l = c.loop-member in
+    done-taken x qs q a.self _ of refl a.deed.privilege.0 c.if-self-eq-OF_ROLES.false few small (ap (λ (d : Deed). d.privilege.0) e)
+    (let h : l.member-index ≡ 8 = omega arith in rw h at l.invariant)
