@@ -20,11 +20,7 @@ pub fn decide_counted(
     ensures { (outcome (granted_of (counted_of result)) table.new ≡ decide_of policy.now table.old request.now) × (written_of result ≡ decided_blocks policy.now table.old request.now) }
 {
     let pass = examine(policy, table, request)?;
-    let changed = update(pass.stamp, pass.ending, pass.gives, pass.request, table, pass.held)?;
-    Ok(Counted {
-        answer: changed.grant,
-        written: changed.written,
-    })
+    update(pass.stamp, pass.ending, pass.gives, pass.request, table, pass.held)
 }
 
 // Decides one request. A grant brings the lent table up to date, a refusal leaves every byte.

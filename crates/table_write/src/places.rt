@@ -17,14 +17,6 @@ use fields::tables::{Blocks, record_start};
 
 // ---- bytes
 
-// Copies n words of another slice.
-pub fn copy_words(s: &mut [u8], at: usize, from: &[u8], n: usize)
-    requires { (at + 4 * n ≤ length s.old) × (4 * n ≤ length from.now) }
-    ensures { s.new ≡ over s.old at (4 * n) (take (4 * n) from.now) }
-{
-    s[at..at + 4 * n].copy_from_slice(&from[..4 * n]);
-}
-
 // The n words at a byte of a slice are the first of another. No early exit: the compiler compares many bytes at once.
 fn same_words(s: &[u8], at: usize, other: &[u8], n: usize) -> bool
     requires { (at + 4 * n ≤ length s.now) × (4 * n ≤ length other.now) }

@@ -32,7 +32,7 @@ fn put_numbers(block: &mut [u8; BLOCK_BYTES], total: usize, k: usize, count: usi
 }
 
 // Zeros n bytes.
-pub fn zero_fill(s: &mut [u8], at: usize, n: usize)
+fn zero_fill(s: &mut [u8], at: usize, n: usize)
     requires { at + n ≤ length s.old }
     ensures { s.new ≡ over s.old at n (zeros n) }
 {

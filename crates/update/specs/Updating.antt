@@ -4,7 +4,7 @@ use Rattle.std.specs.Prelude.{ℕ, ◌≡◌, List, length, leb}
 use Rattle.std.proofs.Math.Option.{none}
 use Rattle.words.specs.First.{unless}
 use Rattle.words.specs.Sums.{Sums}
-use Rattle.format.specs.Answer.{Answer, grant, refuse, refusal, Outcome, refusing}
+use Rattle.format.specs.Answer.{refusal, Outcome, refusing}
 use Rattle.format.specs.Layout.{capacity}
 use Rattle.format.specs.Block.{blocks}
 use Rattle.format.specs.Request.{Request}
@@ -15,13 +15,6 @@ use Rattle.fields.specs.declared.sets.RuleSet.{RuleSet}
 use Rattle.clearing.specs.declared.ending.Ending.{Ending}
 use Rattle.matching.specs.Masks.{EachOf}
 use Rattle.matching.specs.Sets.{EffectIs}
-use Rattle.update.specs.declared.grant.Updated.{Updated}
-use Rattle.update.specs.declared.grant.Updated.TheVariants.{Full, Granted}
-
--- the answer that the code's value stands for
-abbrev pub answer_of : Updated → Answer
-answer_of Full = refuse (refusal 34 0 0)
-answer_of (Granted g) = grant g.recorded g.removed g.held
 
 -- what the code is given, under a policy: it is accepted, and its stamp is t; the table is accepted, and has n records; the four masks are the
 -- policy's; and what a grant of the request ends and gives is what step 4 says

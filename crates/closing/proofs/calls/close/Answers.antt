@@ -1,4 +1,4 @@
 use Rattle.closing.proofs.calls.close.Goals as goal
 
 pub returns : goal.returns
-returns c = c.close_counted-counted.ensures.0
+returns c = c.in_ok-counted.ensures.0

@@ -16,10 +16,7 @@ use Rattle.update.proofs.grant.update.Goals.{After-has_room}
 use Rattle.update.proofs.grant.update.Goals as goal
 
 pub capacity-room-requires : goal.capacity-room-requires
-capacity-room-requires c = c.requires.has_room.0.most
-
-pub has_room-requires : goal.has_room-requires
-has_room-requires c = record { q_len = (c.requires.q_len, omega (arith, c.capacity-room.ensures, c.requires.has_room.0.few)); has_room = c.requires.has_room; near_of = c.requires.near_of }
+capacity-room-requires c = c.requires.ready.room.most
 
 -- there is room, by the table's own capacity
 room-is : (h : After-has_room) → let a = h.args in
@@ -34,12 +31,12 @@ returns-then-not-has_room c policy j =
     (no_room j (standing bytes j.accepted-table j.stamp-is j.held-are) (room-is (goal.at.returns-then-not-has_room c).After-has_room) (ap not c.if-not-has_room.true), sym (blocks-none (blocks t) (records_of t)))
 
 pub write_after-after-requires : goal.write_after-after-requires
-write_after-after-requires c = record { q_len = c.requires.q_len; has_room = c.requires.has_room; near_of = c.requires.near_of; table_value = c.requires.table_value; n_len_bound = room_fits _ _ (room-is (goal.at.write_after-after-requires c).After-has_room) (ap not c.if-not-has_room.false) }
+write_after-after-requires c = record { ready = c.requires.ready; table_value = c.requires.table_value; n_len_bound = room_fits _ _ (room-is (goal.at.write_after-after-requires c).After-has_room) (ap not c.if-not-has_room.false) }
 
 pub granted-requires : goal.granted-requires
 granted-requires c =
     let a = c.args in
-    (omega (arith, c.requires.has_room.0.most, c.requires.has_room.0.few), held-few a.ending.each a.q.now a.ending.rules.0 a.gives.0 a.table.now a.n c.write_after-after.ensures.1)
+    (omega (arith, c.requires.ready.room.most, c.requires.ready.room.few), held-few a.ending.each a.q.now a.ending.rules.0 a.gives.0 a.table.now a.n c.write_after-after.ensures.1)
 
 pub returns : goal.returns
 returns c policy j =
@@ -47,5 +44,5 @@ returns c policy j =
     let st = standing bytes j.accepted-table j.stamp-is j.held-are in
     let e = c.write_after-after.ensures in (
       granted-is j st (room-is (goal.at.returns c).After-has_room) (ap not c.if-not-has_room.false) e.0 e.1 c.granted.ensures,
-      written_is j st (room-is (goal.at.returns c).After-has_room) c.requires.q_len (omega (arith, c.well_formed)) (ap not c.if-not-has_room.false) e.0 e.2,
+      written_is j st (room-is (goal.at.returns c).After-has_room) c.told-q (omega (arith, c.well_formed)) (ap not c.if-not-has_room.false) e.0 e.2,
     )

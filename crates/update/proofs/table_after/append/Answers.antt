@@ -19,13 +19,8 @@ some c = eqb-false c.args.gives.0 0 (sym c.is_empty.ensures ∙ c.if-is_empty.fa
 
 pub place_request-changed-requires : goal.place_request-changed-requires
 place_request-changed-requires c =
-    let h = c.requires.has_room in
-    (c.requires.q_len, record { whole = h.whole; most = h.most; few = omega (arith, h.few, recorded-one c.args.gives.0 (some (goal.at.place_request-changed-requires c).Else-is_empty)) })
-
-pub overflow_add-result : goal.overflow_add-result
-overflow_add-result c =
-    let h = c.requires.has_room in
-    record { fits = omega (arith, h.few, h.most) }
+    let h = c.requires in
+    record { whole = h.whole; most = h.most; few = omega (arith, h.few, recorded-one c.args.gives.0 (some (goal.at.place_request-changed-requires c).Else-is_empty)) }
 
 pub returns : goal.returns
 returns c =
@@ -34,7 +29,7 @@ returns c =
     let gives = a.gives.0 in
     let small : gives < 4294967296 = omega (arith, c.well_formed) in
     let put = c.place_request-changed.ensures in (
-      append-one t a.left.held a.q.now gives (some (goal.at.returns c).Else-is_empty) small c.requires.q_len c.requires.has_room put.0,
-      append-placed t a.left.held a.q.now gives (some (goal.at.returns c).Else-is_empty) small c.requires.q_len c.requires.has_room put.0
+      append-one t a.left.held a.q.now gives (some (goal.at.returns c).Else-is_empty) small c.told-q c.requires put.0,
+      append-placed t a.left.held a.q.now gives (some (goal.at.returns c).Else-is_empty) small c.told-q c.requires put.0
           (slice-bytes t c.slice_known-1.given) a.left.changed c.place_request-changed.result put.1,
     )

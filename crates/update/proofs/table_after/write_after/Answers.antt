@@ -28,7 +28,7 @@ few m =
     )
 
 pub append-after-requires : goal.append-after-requires
-append-after-requires c = let h = room-placed c.settle-left.ensures.1 c.requires.has_room.0 in record { q_len = c.requires.q_len; has_room = record { whole = h.whole; most = h.most; few = omega (arith, few (goal.at.append-after-requires c).After-settle-left, c.settle-left.ensures.1.long) } }
+append-after-requires c = let h = room-placed c.settle-left.ensures.1 c.requires.ready.room in record { whole = h.whole; most = h.most; few = omega (arith, few (goal.at.append-after-requires c).After-settle-left, c.settle-left.ensures.1.long) }
 
 -- the records that stand in the table then
 here : (p : After-append-after) → let a = p.args in
@@ -42,7 +42,7 @@ pub write_settled-requires : goal.write_settled-requires
 write_settled-requires c =
     let a = c.args in
     let t = a.table.now in
-    let room = c.requires.has_room.0 in
+    let room = c.requires.ready.room in
     let placed = c.append-after.ensures.1 t c.settle-left.ensures.1 in
     let bytes = slice-bytes t c.slice_known-1.given in
     let many = written_held placed (here (goal.at.write_settled-requires c).After-append-after) in

@@ -1,14 +1,7 @@
-use native.Mathlib.Omega.{arith}
 use Rattle.sums.specs.Code.{sums_of}
 use Rattle.table_write.proofs.Placed.{room-placed, placed-image}
 use Rattle.update.proofs.AfterLaws.{written_held, written-image, written-altered}
 use Rattle.update.proofs.table_after.write_settled.Goals as goal
-
-pub with_resized-changed-requires : goal.with_resized-changed-requires
-with_resized-changed-requires c =
-    let b = c.requires in
-    let h = b.room in
-    (omega (arith, h.few, h.most), omega (arith, b.few, h.most))
 
 pub seal_blocks-blocks-requires : goal.seal_blocks-blocks-requires
 seal_blocks-blocks-requires c = let b = c.requires in
