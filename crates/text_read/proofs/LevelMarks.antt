@@ -3,17 +3,22 @@
 use Prim.Native.Nat.{ℕ}
 use native.Mathlib.Omega.{arith}
 use mathlib.Core.Path.{◌≡◌, refl}
-use mathlib.Core.Bool.{Bool, true, false, cond, not, ◌&&◌, ◌||◌}
+use mathlib.Core.Bool.{Bool, true, false, cond}
 use mathlib.Core.List.{List, [], ◌∷◌}
+use mathlib.Core.Option.{Option, none}
+use Rattle.format.specs.Answer.{Refusal}
 use borrow.Author.Tests.{ne_eqb}
 use lib.ListN.{length, get_or}
 use lib.Dec.{eqb}
 use Rattle.words.specs.Lists.{same_list}
+use Rattle.fields.specs.Code.{mark_code}
+use Rattle.fields.specs.declared.kind.Mark.{Mark}
+use Rattle.fields.specs.declared.kind.Mark.TheVariants.{Fixed, Every, Each, Range}
 use Rattle.xml.specs.Names.{type_names, value_names, number_of}
 use Rattle.xml.specs.Read.{or_zero, is_every, is_each, level_from, level_of}
 use Rattle.tags.specs.Cut.{laid}
 use Rattle.tags.proofs.Compared.{same-lengths}
-use Rattle.text_read.specs.Levels.{mark_of, level_listed}
+use Rattle.text_read.specs.Levels.{mark_of}
 
 -- ---- a value's mark
 
@@ -64,7 +69,29 @@ module _ (l : List ℕ) (p : List (List ℕ)) (kind mark number : ℕ) (k : kind
       go t v false true = refl
       go t v false false = refl
 
-  -- and its names are listed if its numbers are not 0
-  pub level-listed : not (eqb kind 0) && (not (eqb mark 1) || not (eqb number 0)) ≡ level_listed l p
-  unfolding level_listed
-  level-listed = rw (← level-made)
+-- ---- the fault of a value
+
+-- no other mark than a name's has its number
+pub other-code : (m : Mark) → (m ≡ Fixed → ⊥) → mark_code m ≡ 1 → ⊥
+other-code Fixed h e = h refl
+other-code Every h e = absurd (omega arith)
+other-code Each h e = absurd (omega arith)
+other-code Range h e = absurd (omega arith)
+
+module _ (v : List ℕ) (o : Option Refusal) where
+  -- only a name has one
+  pub name-fault : mark_of v ≡ 1 → cond (is_every v) none (cond (is_each v) none o) ≡ o
+  name-fault = go (is_every v) (is_each v)
+    where
+      go : (a b : Bool) → cond {A = ℕ} a 2 (cond b 3 1) ≡ 1 → cond a none (cond b none o) ≡ o
+      go true b h = absurd (omega arith)
+      go false true h = absurd (omega arith)
+      go false false h = refl
+
+  pub no-name-fault : (mark_of v ≡ 1 → ⊥) → cond (is_every v) none (cond (is_each v) none o) ≡ none
+  no-name-fault = go (is_every v) (is_each v)
+    where
+      go : (a b : Bool) → (cond {A = ℕ} a 2 (cond b 3 1) ≡ 1 → ⊥) → cond a none (cond b none o) ≡ none
+      go true b h = refl
+      go false true h = refl
+      go false false h = absurd (h refl)

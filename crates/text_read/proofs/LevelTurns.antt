@@ -4,8 +4,12 @@ use Prim.Native.Nat.{ℕ, suc, ◌+◌, ◌≤◌, ◌<◌}
 use native.Mathlib.Omega.{arith}
 use native.Mathlib.Numerals.{add-one}
 use mathlib.Core.Path.{◌≡◌, refl, sym, ap, ◌∙◌}
-use mathlib.Core.Bool.{Bool, true, false, cond, ◌&&◌, and_assoc, and-true}
+use mathlib.Core.Bool.{Bool, true, false, cond}
 use mathlib.Core.List.{List, [], ◌∷◌, ◌++◌, map}
+use mathlib.Core.Option.{none, some}
+use Rattle.words.specs.First.{◌or_else◌}
+use Rattle.word_laws.proofs.First.{none-or_else}
+use Rattle.format.specs.Answer.{Refusal}
 use borrow.Author.Tests.{ltb-true, ltb-false, le-leb, lt-leb}
 use lib.ListN.{length, get_or, take, drop, length-map, length-take, length-drop}
 use lib.Dec.{leb, ltb}
@@ -14,13 +18,12 @@ use Rattle.word_laws.proofs.Keep.{map-append}
 use Rattle.format.specs.Rule.{Level}
 use Rattle.forms.specs.Form.{is_of}
 use Rattle.xml.specs.Tags.{squeezed, parted}
-use Rattle.xml.specs.Read.{Draft, level_of, level_texts}
+use Rattle.xml.specs.Read.{Draft, level_of, level_fault, first_of, level_texts}
 use Rattle.tags.specs.Cut.{span, until}
 use Rattle.tags.specs.Code.{value_at}
 use Rattle.tags.specs.declared.span.Span.{Span}
 use Rattle.tags.proofs.SpanPieces.{parted-span, parted-span-none}
 use Rattle.drafts.specs.Draft.{draft_block}
-use Rattle.text_read.specs.Levels.{level_listed, levels_listed}
 
 -- ---- what is left of a context from a byte on
 
@@ -31,7 +34,7 @@ levels_from t at to = cond (leb at to) (map (parted 61) (parted 44 (squeezed (sp
 -- a context that is not blank has those from its beginning on
 from_start : (t : List ℕ) (s : Span) → s.from ≤ s.to → (length (value_at t s) ≡ 0 → ⊥) → level_texts (value_at t s) ≡ levels_from t s.from s.to
 unfolding levels_from level_texts
-from_start t s h some = rw (le-leb s.from s.to h) (go (value_at t s) some)
+from_start t s h more = rw (le-leb s.from s.to h) (go (value_at t s) more)
   where
     go : (v : List ℕ) → (length v ≡ 0 → ⊥) → level_texts v ≡ map (parted 61) (parted 44 v)
     go [] k = absurd (k refl)
@@ -77,67 +80,75 @@ module _ {A : Type 0} (xs : List A) (n : ℕ) (x : A) (ys : List A) (e : drop n 
   left-more : drop (n + 1) xs ≡ ys
   left-more = rw (add-one n) (ap (λ (l : List A). drop 1 l) (sym (drop-cons xs n x more_left) ∙ e))
 
--- the names of one level more
-listed_more : (l : List ℕ) (ps : List (List (List ℕ))) (p : List (List ℕ)) → levels_listed l ps && level_listed l p ≡ levels_listed l (ps ++ p ∷ [])
-unfolding levels_listed
-listed_more l [] p = sym (and-true (level_listed l p))
-listed_more l (x ∷ ps) p = and_assoc (level_listed l x) (levels_listed l ps) (level_listed l p) ∙ rw (listed_more l ps p)
-
 -- ---- the loop
 
--- the first n levels were read: whether their names are listed, the block with them, and what is left
-pub record Taken (l t : List ℕ) (s : Span) (d₀ d : List ℕ) (listed : Bool) (n at : ℕ) : Type 0 where
+-- the first n levels were read, and their names are listed: the block with them, what is left, and that its first fault is that of all
+pub record Taken (l t : List ℕ) (s : Span) (d₀ d : List ℕ) (n at : ℕ) : Type 0 where
   pub few : n ≤ length (level_texts (value_at t s))
   pub left : drop n (level_texts (value_at t s)) ≡ levels_from t at s.to
-  pub names : listed ≡ levels_listed l (take n (level_texts (value_at t s)))
+  pub names : first_of (level_fault l) (level_texts (value_at t s)) ≡ first_of (level_fault l) (levels_from t at s.to)
   pub block : (dr : Draft) → d₀ ≡ draft_block [] dr → d ≡ draft_block (map (level_of l) (take n (level_texts (value_at t s)))) dr
 
 module _ (l t : List ℕ) (s : Span) (d₀ : List ℕ) where
   -- none was, at the beginning
-  pub taken_start : s.from ≤ s.to → (length (value_at t s) ≡ 0 → ⊥) → Taken l t s d₀ d₀ true 0 s.from
-  unfolding levels_listed
-  taken_start h some = record { few = omega arith; left = from_start t s h some; names = refl; block = λ dr e. e }
+  pub taken_start : s.from ≤ s.to → (length (value_at t s) ≡ 0 → ⊥) → Taken l t s d₀ d₀ 0 s.from
+  taken_start h more =
+      let left = from_start t s h more in
+      record { few = omega arith; left = left; names = ap (first_of (level_fault l)) left; block = λ dr e. e }
 
-  -- one more is
-  pub taken_more :
-      {d d' : List ℕ} {listed good : Bool} {n at e : ℕ} → Taken l t s d₀ d listed n at → at ≤ s.to → s.to ≤ length t
-      → e ≡ at + until 44 (span t at s.to) → e ≤ s.to → good ≡ level_listed l (parted 61 (squeezed (span t at e)))
-      → ((ls : List Level) (dr : Draft) → length ls ≡ n → d ≡ draft_block ls dr
-      → d' ≡ draft_block (ls ++ level_of l (parted 61 (squeezed (span t at e))) ∷ []) dr)
-      → Taken l t s d₀ d' (listed && good) (n + 1) (e + 1)
-  taken_more {d} {d'} {listed} {good} {n} {at} {e} x h k end low same put =
-      let ps = level_texts (value_at t s) in
-      let p = parted 61 (squeezed (span t at e)) in
-      let rest = levels_from t (suc e) s.to in
-      let next = x.left ∙ from_more t at s.to e h k end low in
-      let front = front-more ps n p rest next in
-      let more = more_left ps n p rest next in
-      let long : length (map (level_of l) (take n ps)) ≡ n = simp (length-map, length-take) (omega arith) in
-      record {
-        few = omega arith;
-        left = rw (add-one e) (left-more ps n p rest next);
-        names = rw (x.names, same, front) (listed_more l (take n ps) p);
-        block = λ dr f. put (map (level_of l) (take n ps)) dr long (x.block dr f) ∙ rw (front, map-append (level_of l) (take n ps) (p ∷ []));
-      }
+  module _
+      {d : List ℕ} {n at e : ℕ} (x : Taken l t s d₀ d n at) (h : at ≤ s.to) (k : s.to ≤ length t) (end : e ≡ at + until 44 (span t at s.to)) (low : e ≤ s.to) where
+    next-fault :
+        first_of (level_fault l) (level_texts (value_at t s))
+        ≡ level_fault l (parted 61 (squeezed (span t at e))) or_else first_of (level_fault l) (levels_from t (suc e) s.to)
+    unfolding first_of
+    next-fault = x.names ∙ ap (first_of (level_fault l)) (from_more t at s.to e h k end low)
+
+    -- the next has a fault: it is the first
+    pub taken-fault : {f : Refusal} → some f ≡ level_fault l (parted 61 (squeezed (span t at e))) → some f ≡ first_of (level_fault l) (level_texts (value_at t s))
+    unfolding ◌or_else◌
+    taken-fault is = sym (next-fault ∙ rw (← is) refl)
+
+    -- one more is read
+    pub taken_more :
+        {d' : List ℕ} → none ≡ level_fault l (parted 61 (squeezed (span t at e)))
+        → ((ls : List Level) (dr : Draft) → length ls ≡ n → d ≡ draft_block ls dr
+        → d' ≡ draft_block (ls ++ level_of l (parted 61 (squeezed (span t at e))) ∷ []) dr)
+        → Taken l t s d₀ d' (n + 1) (e + 1)
+    taken_more good put =
+        let ps = level_texts (value_at t s) in
+        let p = parted 61 (squeezed (span t at e)) in
+        let rest = levels_from t (suc e) s.to in
+        let next = x.left ∙ from_more t at s.to e h k end low in
+        let front = front-more ps n p rest next in
+        let more = more_left ps n p rest next in
+        let long : length (map (level_of l) (take n ps)) ≡ n = simp (length-map, length-take) (omega (arith, x.few)) in
+        record {
+          few = omega arith;
+          left = rw (add-one e) (left-more ps n p rest next);
+          names = rw (add-one e) (next-fault ∙ none-or_else _ _ (sym good));
+          block = λ dr f. put (map (level_of l) (take n ps)) dr long (x.block dr f) ∙ rw (front, map-append (level_of l) (take n ps) (p ∷ []));
+        }
 
   -- all were, behind the end
   pub taken-end :
-      {d : List ℕ} {listed : Bool} {n at : ℕ} → Taken l t s d₀ d listed n at → s.to < at
-      → (listed ≡ levels_listed l (level_texts (value_at t s))) × (n ≡ length (level_texts (value_at t s)))
+      {d : List ℕ} {n at : ℕ} → Taken l t s d₀ d n at → s.to < at
+      → (none ≡ first_of (level_fault l) (level_texts (value_at t s))) × (n ≡ length (level_texts (value_at t s)))
       × ((dr : Draft) → d₀ ≡ draft_block [] dr → d ≡ draft_block (map (level_of l) (level_texts (value_at t s))) dr)
-  taken-end {d} {listed} {n} {at} x h =
+  unfolding first_of
+  taken-end {d} {n} {at} x h =
       let ps = level_texts (value_at t s) in
       let none = ap (λ (p : List (List (List ℕ))). length p) (x.left ∙ from_end t at s.to h) in
       let gone = length-drop n ps in
       let all : n ≡ length ps = omega (arith, x.few) in
       let whole : take n ps ≡ ps = take_all n ps (omega arith) in
-      (x.names ∙ rw whole, all, λ dr e. x.block dr e ∙ rw whole)
+      (sym (x.names ∙ ap (first_of (level_fault l)) (from_end t at s.to h)), all, λ dr e. x.block dr e ∙ rw whole)
 
 -- a blank context has no level
 pub taken_none :
     (l v d : List ℕ) → length v ≡ 0
-    → (true ≡ levels_listed l (level_texts v)) × (0 ≡ length (level_texts v))
+    → (none ≡ first_of (level_fault l) (level_texts v)) × (0 ≡ length (level_texts v))
     × ((dr : Draft) → d ≡ draft_block [] dr → d ≡ draft_block (map (level_of l) (level_texts v)) dr)
-unfolding level_texts levels_listed
+unfolding level_texts first_of
 taken_none l [] d h = (refl, refl, λ dr e. e)
 taken_none l (b ∷ v) d h = absurd (omega arith)

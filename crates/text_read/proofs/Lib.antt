@@ -3,10 +3,8 @@ pub mod LevelMarks
 pub mod LevelLaws
 pub mod LevelPieces
 pub mod LevelTurns
-pub mod TurnLooks
 pub mod StandsNow
 pub mod StandsKept
-pub mod TurnTags
 pub mod TurnPlaces
 pub mod TurnSet
 pub mod TurnRule

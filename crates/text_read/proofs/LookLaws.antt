@@ -1,75 +1,49 @@
--- What the number of a name says, 0 for one that is not listed: whether there is a fault, and that it fits its bytes.
+-- The numbers of names: what a look-up says, and that they fit their bytes.
 -- Assumes nothing.
 use Prim.Native.Nat.{ℕ, ◌<◌}
 use native.Mathlib.Omega.{arith}
 use mathlib.Core.Path.{◌≡◌, refl}
-use mathlib.Core.Bool.{Bool, true, false, not, ◌&&◌}
 use mathlib.Core.List.{List}
-use mathlib.Core.Option.{Option, none, some}
-use borrow.Author.Tests.{ne_eqb}
-use lib.Dec.{eqb, leb}
-use Rattle.words.specs.First.{◌or_else◌, unless}
+use mathlib.Core.Option as math
+use Rattle.std.specs.Prelude.{Option, Some, None, IfOk}
+use Rattle.std.specs.Option.{ok_or}
 use Rattle.word_laws.proofs.Bytes.{Byte}
 use Rattle.word_laws.proofs.Every.{Every}
-use Rattle.format.specs.Answer.{refusal}
-use Rattle.format.specs.Layout.{highest_role}
-use Rattle.format.specs.Rule.{full_privilege}
-use Rattle.xml.specs.Names.{role_names, operation_names, target_names, good_names, number_of}
-use Rattle.xml.specs.Read.{listed, within, or_zero, privilege_fault, privilege_of, role_fault, role_of}
+use Rattle.format.specs.Code.{text_fault_of}
+use Rattle.format.specs.declared.answer.TextRefusal.TheVariants.{NotListed}
+use Rattle.xml.specs.Names.{number_of}
+use Rattle.xml.specs.Read.{listed, or_zero, privilege_of, role_of}
+use Rattle.names.specs.Code.{number_found}
 use Rattle.names.proofs.LookUps.{number-found}
-use Rattle.names.proofs.Numbers.{number-from-1, number-to-65535}
+use Rattle.names.proofs.Numbers.{number-to-65535}
 use Rattle.drafts.specs.Draft.{PrivilegeFits}
 
--- two tests in a row with one answer are one test
-pub unless-both : {A : Type 0} (x y : Bool) (a : A) → unless x a or_else unless y a ≡ unless (x && y) a
-unfolding unless ◌or_else◌
-unless-both true y a = refl
-unless-both false y a = refl
+-- what was found, or else that the name is not listed
+pub looked : (o : Option ℕ) (m : math.Option ℕ) → number_found o ≡ m → text_fault_of (ok_or o NotListed) ≡ listed m
+unfolding listed
+looked None m e = rw (← e) refl
+looked (Some n) m e = rw (← e) refl
 
--- ---- in a good list
+pub looked-number : (o : Option ℕ) (m : math.Option ℕ) → number_found o ≡ m → IfOk (ok_or o NotListed) (λ n. n ≡ or_zero m)
+unfolding or_zero
+looked-number None m e = tt
+looked-number (Some n) m e = rw (← e) refl
 
-module _ (l : List ℕ) (good : good_names l ≡ true) where
-  -- a name is listed unless its number is 0
-  pub listed-unless : (k : ℕ) (w : List ℕ) → listed (number_of l k w) ≡ unless (not (eqb (or_zero (number_of l k w)) 0)) (refusal 42 0 0)
-  unfolding listed unless or_zero
-  listed-unless k w = go (number_of l k w) refl
-    where
-      go : (o : Option ℕ) → number_of l k w ≡ o → listed o ≡ unless (not (eqb (or_zero o) 0)) (refusal 42 0 0)
-      go none e = refl
-      go (some n) e = rw (ne_eqb n 0 (number-from-1 l k n w good (number-found l k n w e)))
+-- a name's number fits two bytes
+pub number_fits : (l : List ℕ) → Every Byte l → (k : ℕ) (w : List ℕ) → or_zero (number_of l k w) < 65536
+unfolding or_zero
+number_fits l bytes k w = go (number_of l k w) refl
+  where
+    go : (o : math.Option ℕ) → number_of l k w ≡ o → or_zero o < 65536
+    go math.none e = omega arith
+    go (math.some n) e = omega (arith, number-to-65535 l k n w bytes (number-found l k n w e))
 
-  -- a privilege is without a fault if both its numbers are from 1
-  pub privilege-fault : (o t : List ℕ) → privilege_fault l o t ≡ unless (full_privilege (privilege_of l o t)) (refusal 42 0 0)
-  unfolding privilege_fault privilege_of
-  privilege-fault o t =
-      rw (listed-unless operation_names o, listed-unless target_names t)
-      (unless-both (not (eqb (or_zero (number_of l operation_names o)) 0)) (not (eqb (or_zero (number_of l target_names t)) 0)) (refusal 42 0 0))
-
-  -- a role is without a fault if its number is from 1 to 32
-  pub role-fault :
-      (v : List ℕ)
-      → role_fault l v
-      ≡ unless (not (eqb (or_zero (number_of l role_names v)) 0)) (refusal 42 0 0) or_else within (leb (or_zero (number_of l role_names v)) highest_role)
-  unfolding role_fault
-  role-fault v = rw (listed-unless role_names v)
-
--- ---- in a list of bytes
-
-module _ (l : List ℕ) (bytes : Every Byte l) where
-  -- a name's number fits two bytes
-  pub number_fits : (k : ℕ) (w : List ℕ) → or_zero (number_of l k w) < 65536
-  unfolding or_zero
-  number_fits k w = go (number_of l k w) refl
-    where
-      go : (o : Option ℕ) → number_of l k w ≡ o → or_zero o < 65536
-      go none e = omega arith
-      go (some n) e = omega (arith, number-to-65535 l k n w bytes (number-found l k n w e))
-
-  -- those of a privilege and of a role do
+-- then those of a privilege and of a role do
+module _ (l : List ℕ) (fits : (k : ℕ) (w : List ℕ) → or_zero (number_of l k w) < 65536) where
   pub privilege-fits : (o t : List ℕ) → PrivilegeFits (privilege_of l o t)
   unfolding privilege_of
-  privilege-fits o t = (number_fits operation_names o, number_fits target_names t)
+  privilege-fits o t = (fits 4 o, fits 5 t)
 
   pub role-fits : (v : List ℕ) → PrivilegeFits (role_of l v)
   unfolding role_of
-  role-fits v = (number_fits role_names v, omega arith)
+  role-fits v = (fits 3 v, omega arith)

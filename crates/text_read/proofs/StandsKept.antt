@@ -3,7 +3,7 @@
 use Prim.Native.Nat.{ℕ, suc, ◌+◌, ◌*◌, ◌≤◌, ◌<◌, min}
 use native.Mathlib.Decide.{dec_lt}
 use native.Mathlib.Omega.{arith}
-use mathlib.Core.Path.{◌≡◌, refl, sym, ap, subst, ◌∙◌}
+use mathlib.Core.Path.{◌≡◌, refl, sym, ap, ◌∙◌}
 use mathlib.Core.List.{List, [], ◌∷◌, ◌++◌, map, map-append}
 use lib.ListN.{length, get_or, length-append, length-map, get_or-append}
 use lib.Seq.{get_or_at}
@@ -16,13 +16,9 @@ use Rattle.table_write.proofs.Parts.{part-before, part-here}
 use Rattle.xml.specs.Tags.{squeezed}
 use Rattle.xml.specs.Read.{new_draft, Reading}
 use Rattle.drafts.specs.Draft.{draft_block, rule_block}
-use Rattle.text_read.specs.Stands.{Stands}
+use Rattle.text_read.specs.Stands.{Kept, Stands}
 use Rattle.text_read.specs.declared.sheet.Sheet.{Sheet}
 use Rattle.text_read.proofs.StandsNow.{no-step-fits}
-
--- the first 32 rules stand in an image, each in its block
-abbrev pub Kept : List Rule → List ℕ → Type 0
-Kept rs image = (k : ℕ) → k < length rs → k < most_rules → block image k ≡ get_or (map rule_block rs) k []
 
 -- rule r ends behind the rules rs, n of them counted
 module _ (rs : List Rule) (r : Rule) (n : ℕ) (count : n ≡ min (suc most_rules) (length rs)) where
@@ -61,15 +57,14 @@ module _ (rs : List Rule) (r : Rule) (n : ℕ) (count : n ≡ min (suc most_rule
 
 -- a rule has ended, and none is being read
 pub rule-ended :
-    {t x d image : List ℕ} {s : Reading} {sheet : Sheet} (stands : Stands t s x d image sheet) (r : Rule) {b d' image' : List ℕ} {sheet' : Sheet}
+    {t : List ℕ} {s : Reading} {sheet : Sheet} (stands : Stands t s sheet) (r : Rule) {b d image : List ℕ} {n : ℕ}
     → length image ≡ block_bytes * most_rules → length b ≡ block_bytes → b ≡ rule_block r
-    → (sheet.rules < most_rules → image' ≡ over image (block_bytes * sheet.rules) block_bytes b) → (most_rules ≤ sheet.rules → image' ≡ image)
-    → d' ≡ draft_block [] (new_draft [])
-    → sheet' ≡ record { rules = min (suc most_rules) (sheet.rules + 1); context = record { from = 0; to = 0 } }
-    → Stands t (record { rules = s.rules ++ r ∷ []; rule = new_draft []; exclusion = s.exclusion }) x d' image' sheet'
+    → (sheet.rules < most_rules → image ≡ over sheet.kept (block_bytes * sheet.rules) block_bytes b) → (most_rules ≤ sheet.rules → image ≡ sheet.kept)
+    → d ≡ draft_block [] (new_draft []) → n ≡ min (suc most_rules) (sheet.rules + 1)
+    → Stands t (record { rules = s.rules ++ r ∷ []; rule = new_draft []; exclusion = s.exclusion })
+    (record { exclusion = sheet.exclusion; rule = d; context = record { from = 0; to = 0 }; rules = n; kept = image })
 unfolding squeezed keep
-rule-ended {t} {x} {image = image} {s} {sheet} stands r {b} {d'} {image'} long sized is put left e is' =
-    subst (λ (y : Sheet). Stands t (record { rules = s.rules ++ r ∷ []; rule = new_draft []; exclusion = s.exclusion }) x d' image' y) (sym is')
+rule-ended {s = s} {sheet} stands r {b} long sized is put left e count =
     record {
       exclusion = stands.exclusion;
       members = stands.members;
@@ -78,6 +73,7 @@ rule-ended {t} {x} {image = image} {s} {sheet} stands r {b} {d'} {image'} long s
       last = no-step-fits;
       context = refl;
       in_text = (omega arith, omega arith);
-      rules = count-more s.rules r sheet.rules stands.rules;
-      kept = kept_more s.rules r sheet.rules stands.rules image b long sized is put left stands.kept;
+      rules = count ∙ count-more s.rules r sheet.rules stands.rules;
+      kept = kept_more s.rules r sheet.rules stands.rules sheet.kept b stands.sized sized is put left stands.kept;
+      sized = long;
     }

@@ -20,8 +20,8 @@ place-fault Member l second room s o u = refl
 
 -- and it is added
 pub place-now :
-    (p : Place) (l : List ℕ) (s : Reading) (o u : List ℕ) {t x d image : List ℕ} {sheet : Sheet} → Stands t (with_privilege p s (privilege_of l o u)) x d image sheet
-    → Stands t (after_tag l s (privilege_as p o u)) x d image sheet
+    (p : Place) (l : List ℕ) (s : Reading) (o u : List ℕ) {t : List ℕ} {sheet : Sheet} → Stands t (with_privilege p s (privilege_of l o u)) sheet
+    → Stands t (after_tag l s (privilege_as p o u)) sheet
 unfolding after_tag
 place-now First l s o u h = h
 place-now Last l s o u h = h
@@ -29,6 +29,6 @@ place-now Member l s o u h = h
 
 -- a place that is known
 pub at_place :
-    {p q : Place} → p ≡ q → (s : Reading) (v : Privilege) {t x d image : List ℕ} {sheet : Sheet} → Stands t (with_privilege q s v) x d image sheet
-    → Stands t (with_privilege p s v) x d image sheet
-at_place is s v {t} {x} {d} {image} {sheet} = subst (λ (y : Place). Stands t (with_privilege y s v) x d image sheet) (sym is)
+    {p q : Place} → p ≡ q → (s : Reading) (v : Privilege) {t : List ℕ} {sheet : Sheet} → Stands t (with_privilege q s v) sheet
+    → Stands t (with_privilege p s v) sheet
+at_place is s v {t} {sheet} = subst (λ (y : Place). Stands t (with_privilege y s v) sheet) (sym is)

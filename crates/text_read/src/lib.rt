@@ -6,4 +6,5 @@ mod levels;
 mod look_up;
 pub mod read;
 mod sheet;
+mod source;
 mod turns;

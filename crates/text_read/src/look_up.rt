@@ -1,59 +1,55 @@
-// The numbers of names that stand in a text, each looked up among its own kind; 0 for one that is not listed.
-ghost use Rattle.std.specs.Prelude.{◌≡◌, true};
+// The numbers of names that stand in a text, each looked up among its own kind.
+ghost use Rattle.std.specs.Prelude.{◌≡◌, IfOk};
+ghost use Rattle.format.specs.Code.{text_fault_of};
 ghost use Rattle.fields.specs.Code.{privilege_of as privilege_here};
-ghost use Rattle.xml.specs.Names.{type_names, value_names, role_names, good_names, number_of};
-ghost use Rattle.xml.specs.Read.{or_zero, privilege_of};
-ghost use Rattle.names.specs.Code.{name_code};
+ghost use Rattle.xml.specs.Names.{role_names, number_of};
+ghost use Rattle.xml.specs.Read.{listed, or_zero, privilege_fault, privilege_of};
 ghost use Rattle.tags.specs.Code.{value_at, InText};
+ghost use Rattle.names.specs.Code.{name_code};
 
+use crate::source::Source;
 use fields::number::{Operation, Role, Target};
 use fields::privilege::Privilege;
+use format::answer::TextRefusal;
 use names::find::number_of;
 use names::kind::NameKind;
 use names::layout::MOST_NAME_BYTES;
 use tags::cut::squeeze;
 use tags::span::Span;
 
-// The number of a name of a kind, white space left out. What has more bytes than a name may have is not listed.
-fn number_in(list: &[u8], kind: NameKind, text: &[u8], s: Span) -> u16
-    requires { (good_names list.now ≡ true) × InText text.now s }
-    ensures { result ≡ or_zero (number_of list.now (name_code kind) (value_at text.now s)) }
-{
-    let mut name = [0u8; MOST_NAME_BYTES];
-    let n = squeeze(text, s.from, s.to, &mut name);
-    if MOST_NAME_BYTES < n {
-        return 0;
+impl Source<'_> {
+    // The number of a name of a kind, white space left out. What has more bytes than a name may have is not listed.
+    pub fn number_in(&self, kind: NameKind, s: Span) -> Result<u16, TextRefusal>
+        requires { InText self.now.text.now s }
+        ensures fault { text_fault_of result ≡ listed (number_of self.now.list.now (name_code kind) (value_at self.now.text.now s)) }
+        ensures number { IfOk result (λ n. n ≡ or_zero (number_of self.now.list.now (name_code kind) (value_at self.now.text.now s))) }
+    {
+        let mut name = [0u8; MOST_NAME_BYTES];
+        let n = squeeze(self.text, s.from, s.to, &mut name);
+        if MOST_NAME_BYTES < n {
+            return Err(TextRefusal::NotListed);
+        }
+        number_of(self.list, kind, &name, 0, n).ok_or(TextRefusal::NotListed)
     }
-    number_of(list, kind, &name, 0, n).unwrap_or(0)
-}
 
-pub fn type_in(list: &[u8], text: &[u8], s: Span) -> u16
-    requires { (good_names list.now ≡ true) × InText text.now s }
-    ensures { result ≡ or_zero (number_of list.now type_names (value_at text.now s)) }
-{
-    number_in(list, NameKind::ContextType, text, s)
-}
+    // The number of a role's name.
+    pub fn role_in(&self, s: Span) -> Result<Role, TextRefusal>
+        requires { InText self.now.text.now s }
+        ensures fault { text_fault_of result ≡ listed (number_of self.now.list.now role_names (value_at self.now.text.now s)) }
+        ensures number { IfOk result (λ role. role.0 ≡ or_zero (number_of self.now.list.now role_names (value_at self.now.text.now s))) }
+    {
+        Ok(Role(u32::from(self.number_in(NameKind::Role, s)?)))
+    }
 
-pub fn value_in(list: &[u8], text: &[u8], s: Span) -> u16
-    requires { (good_names list.now ≡ true) × InText text.now s }
-    ensures { result ≡ or_zero (number_of list.now value_names (value_at text.now s)) }
-{
-    number_in(list, NameKind::ContextValue, text, s)
-}
-
-pub fn role_in(list: &[u8], text: &[u8], s: Span) -> Role
-    requires { (good_names list.now ≡ true) × InText text.now s }
-    ensures { result.0 ≡ or_zero (number_of list.now role_names (value_at text.now s)) }
-{
-    Role(number_in(list, NameKind::Role, text, s) as u32)
-}
-
-pub fn privilege_in(list: &[u8], text: &[u8], operation: Span, target: Span) -> Privilege
-    requires { (good_names list.now ≡ true) × InText text.now operation × InText text.now target }
-    ensures { privilege_here result ≡ privilege_of list.now (value_at text.now operation) (value_at text.now target) }
-{
-    Privilege {
-        operation: Operation(number_in(list, NameKind::Operation, text, operation)),
-        target: Target(number_in(list, NameKind::Target, text, target)),
+    // Those of an operation's and of a target's.
+    pub fn privilege_in(&self, operation: Span, target: Span) -> Result<Privilege, TextRefusal>
+        requires { InText self.now.text.now operation × InText self.now.text.now target }
+        ensures fault { text_fault_of result ≡ privilege_fault self.now.list.now (value_at self.now.text.now operation) (value_at self.now.text.now target) }
+        ensures privilege { IfOk result (λ p. privilege_here p ≡ privilege_of self.now.list.now (value_at self.now.text.now operation) (value_at self.now.text.now target)) }
+    {
+        Ok(Privilege {
+            operation: Operation(self.number_in(NameKind::Operation, operation)?),
+            target: Target(self.number_in(NameKind::Target, target)?),
+        })
     }
 }

@@ -1,44 +1,46 @@
 // Reading: the text's form, its tags, and the image that its rules make.
 ghost use Rattle.std.specs.Prelude.{◌≡◌, true, length};
-ghost use Rattle.std.proofs.Math.Option.{none};
 ghost use Rattle.format.specs.Answer.{refusing};
-ghost use Rattle.format.specs.Policy.{policy_fault, rule_count};
 ghost use Rattle.xml.specs.Names.{good_names};
 ghost use Rattle.xml_calls.specs.Calls.{resulting, read_fault, read_image};
-ghost use Rattle.text_read.specs.Code.{outcome, read_of};
+ghost use Rattle.answers.specs.Code.{converted_of, outcome};
 
-use crate::in_turn::read_tags;
-use fields::layout::{BLOCK_BYTES, MOST_RULES};
+use crate::sheet::Sheet;
+use crate::source::Source;
+use fields::layout::BLOCK_BYTES;
+use format::answer::TextRefusal;
 use numbering::anew::write_image;
+use policy_check::policy::Policy;
 use reader::misfit::Misfit;
 use reader::reached::reach_of;
 
-// What reading answers: the number of a refusal for a name or a limit, the first byte that the form does not have, or the length of the image.
-#[derive(Clone, Copy)]
-pub enum Read {
-    Refused(u32),
-    Misfit(usize),
-    Length(usize),
-}
-
-// Reads the rules of a text with a good list beside an accepted second image, which has so many rules of its own. Nothing is written before all is read.
-pub fn read_text(text: &[u8], list: &[u8], second: &[u8], rules: usize, output: &mut [u8]) -> Read
-    requires { (policy_fault second.now ≡ none) × (good_names list.now ≡ true) × (rules ≡ rule_count second.now) }
-    ensures { outcome (read_of result) output.new ≡ refusing (read_fault text.now list.now second.now (length output.old)) output.old (resulting (read_image text.now list.now second.now) output.old) }
+// Reads the rules of a text with a good list beside the permission blocks of a policy: the length of the image that they make. Nothing is written before all
+// is read.
+pub fn read_text(
+    text: &[u8],
+    list: &[u8],
+    second: &Policy<'_>,
+    output: &mut [u8],
+) -> Result<usize, TextRefusal>
+    requires { good_names list.now ≡ true }
+    ensures { outcome (converted_of result) output.new ≡ refusing (read_fault text.now list.now second.now.image.now (length output.old)) output.old (resulting (read_image text.now list.now second.now.image.now) output.old) }
 {
     let reached = reach_of(text);
     let end = match reached {
         Ok(()) => text.len(),
         Err(Misfit(at)) => at,
     };
-    let mut image = [0u8; BLOCK_BYTES * MOST_RULES as usize];
-    let permissions = second.len() / BLOCK_BYTES - rules;
-    let turn = read_tags(list, text, end, permissions, output.len(), &mut image);
-    if turn.fault != 0 {
-        return Read::Refused(turn.fault);
-    }
+    let rules = second.rules as usize;
+    let source = Source {
+        text,
+        list,
+        permissions: second.image.len() / BLOCK_BYTES - rules,
+        room: output.len(),
+    };
+    let mut sheet = Sheet::new();
+    sheet.read_tags(&source, end)?;
     if let Err(Misfit(at)) = reached {
-        return Read::Misfit(at);
+        return Err(TextRefusal::Misfit(at));
     }
-    Read::Length(write_image(&image, turn.sheet.rules, second, rules, output))
+    Ok(write_image(&sheet.kept, sheet.rules, second.image, rules, output))
 }

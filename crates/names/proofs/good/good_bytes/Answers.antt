@@ -1,7 +1,18 @@
-use Rattle.std.proofs.Common.{rules}
-use Rattle.word_laws.proofs.Chains.{all_below-from_all}
-use Rattle.names.specs.Parts.{good_byte_at}
+use native.Mathlib.Numerals.{add-one}
+use native.Mathlib.Omega.{arith}
+use mathlib.Core.Path.{◌≡◌}
+use Rattle.words.specs.Lists.{all_below}
+use borrow.Author.Rules.{rules}
 use Rattle.names.proofs.good.good_bytes.Goals as goal
 
+pub loop-j-init : goal.loop-j-init
+unfolding all_below
+loop-j-init c = search rules
+
+pub loop-j-preserved : goal.loop-j-preserved
+unfolding all_below
+loop-j-preserved c = (omega arith, rw add-one (cc))
+
 pub returns : goal.returns
-returns c = all_below-from_all (good_byte_at c.args.list.now c.args.i) 60 _ _ _ c.all.ensures.ran (λ x b q k. search rules)
+returns c =
+    let e : c.loop-j.j ≡ 60 = omega arith in rw e at c.loop-j.invariant.1

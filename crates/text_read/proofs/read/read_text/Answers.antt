@@ -1,74 +1,98 @@
-use Prim.Native.Nat.{◌-◌, ◌≤◌}
+use Prim.Native.Nat.{◌-◌}
 use native.Mathlib.Omega.{arith}
-use mathlib.Core.Path.{◌≡◌, sym, ap, ◌∙◌}
-use mathlib.Core.Option.{none}
+use mathlib.Core.Path.{◌≡◌, ap, ◌∙◌, sym}
+use mathlib.Core.Option.{none, some}
 use lib.ListN.{length}
+use Rattle.std.specs.Prelude.{Ok}
+use Rattle.std.proofs.lemmas.Result.{err_from_is_err_and}
+use Rattle.table_write.proofs.SliceBytes.{slice-bytes}
+use Rattle.format.specs.Answer.{refusal}
 use Rattle.format.specs.Block.{blocks}
 use Rattle.format_laws.proofs.AcceptedPolicy.{rules-few, policy-blocked}
-use mathlib.Core.Bool.{true}
-use Rattle.forms.specs.Form.{is_of_form, reach}
+use Rattle.forms.specs.Form.{reach}
 use Rattle.xml.specs.Grammar.{set}
 use Rattle.xml.specs.Read.{good_tags}
 use Rattle.xml_calls.specs.Calls.{read_fault}
 use Rattle.text_read.specs.Stands.{ReadIs}
-use Rattle.text_read.proofs.WholeFault.{reach-within, good-beginning, tag-refused, form-refused, faultless}
+use Rattle.text_read.proofs.LookLaws.{number_fits}
+use Rattle.text_read.proofs.WholeFault.{reach-within, good-beginning, tag-fault, form-fault, faultless, refused}
 use Rattle.text_read.proofs.WholeImage.{image-fits, image-read}
-use borrow.Author.Rules.{rules}
-use Rattle.text_read.proofs.read.read_text.Goals.{After-read_tags-turn, in-Ok, in-Err}
+use Rattle.text_read.proofs.read.read_text.Goals.{After-new-sheet, In_ok-read_tags, In_default, in-Ok, in-Err}
 use Rattle.text_read.proofs.read.read_text.Goals as goal
 
--- the good beginning's end
-end : (c : After-read_tags-turn) → c.match-reached.end ≡ reach set c.args.text.now
-end c = elim c.match-reached.branch [ in-Ok w ↦ w.end-is ∙ sym w.in-Ok.ensures.1 | in-Err w ↦ grind arith ]
+-- the tags up to the byte that was reached are asked for
+ended : (c : After-new-sheet) → c.match-reached.end ≡ reach set c.args.text.now
+ended c =
+    elim c.match-reached.branch [
+      | in-Ok w ↦ w.end-is ∙ sym w.in-Ok.ensures.1
+      | in-Err w ↦ (rw w.in-Err.is at w.end-is) ∙ sym w.in-Err.ensures.1
+    ]
 
--- the tags were read
-read :
-    (c : After-read_tags-turn) →
-    let a = c.args in
-    ReadIs a.list.now a.second.now (length a.output.now) (good_tags a.text.now) c.read_tags-turn.new.image c.read_tags-turn.result
+-- they were read
+read : (c : In_ok-read_tags) → let a = c.args in
+    ReadIs a.list.now a.second.now.image.now (length a.output.now) (good_tags a.text.now) c.read_tags.new.self (Ok tt)
 read c =
     let a = c.args in
-    good-beginning a.text.now (end c)
-    (c.read_tags-turn.ensures a.second.now (ap (λ n. blocks a.second.now - n) c.requires.2))
+    let p = a.second.now in
+    good-beginning a.text.now (ended (goal.at.In_ok-read_tags c).After-new-sheet)
+    (c.in_ok-read_tags.ensures p.image.now (ap (λ n. blocks p.image.now - n) p.rules_are))
 
 -- and the text is of the form
-no-fault : (c : After-read_tags-turn) → c.read_tags-turn.result.fault ≡ 0 → is_of_form set c.args.text.now ≡ true →
-    let a = c.args in read_fault a.text.now a.list.now a.second.now (length a.output.now) ≡ none
-no-fault c z f =
+no-fault : (c : In_default) → let a = c.args in read_fault a.text.now a.list.now a.second.now.image.now (length a.output.now) ≡ none
+no-fault c =
     let a = c.args in
-    faultless a.text.now a.list.now a.second.now (length a.output.now) c.requires.0 c.requires.1 c.read_tags-turn.result.fault (read c).fault z f
+    let p = a.second.now in
+    faultless a.text.now a.list.now p.image.now (length a.output.now) p.accepted c.requires (read (goal.at.In_default c).In_ok-read_tags).fault
+    c.in_default.ensures.0
 
-pub overflow_sub-permissions : goal.overflow_sub-permissions
-overflow_sub-permissions c = omega (arith, rules-few c.args.second.now c.requires.0, c.requires.2)
+pub overflow_sub-source : goal.overflow_sub-source
+overflow_sub-source c = let p = c.args.second.now in omega (arith, rules-few p.image.now p.accepted, p.rules_are)
 
-pub read_tags-turn-requires-clause-list_value : goal.read_tags-turn-requires-clause-list_value
-read_tags-turn-requires-clause-list_value c =
-    let fit : c.match-reached.end ≤ length c.args.text.now = elim c.match-reached.branch [ in-Ok w ↦ omega arith | in-Err w ↦ let m = reach-within set c.args.text.now in grind arith ] in
-    (c.requires.1, fit, omega (arith, (policy-blocked c.args.second.now c.requires.0).not-over))
+pub invariant_of-source : goal.invariant_of-source
+invariant_of-source c =
+    let p = c.args.second.now in
+    record {
+      good = c.requires;
+      numbers = number_fits c.args.list.now (slice-bytes _ c.type_inv.list);
+      few = omega (arith, (policy-blocked p.image.now p.accepted).not-over);
+    }
 
-pub returns-then-turn-ne0 : goal.returns-then-turn-ne0
-returns-then-turn-ne0 c =
+pub read_tags-requires : goal.read_tags-requires
+read_tags-requires c =
+    let t = c.args.text.now in (omega (arith, ended (goal.at.read_tags-requires c).After-new-sheet, reach-within set t), c.new-sheet.ensures t)
+
+pub returns-in_err-read_tags : goal.returns-in_err-read_tags
+returns-in_err-read_tags c =
+    let p = err_from_is_err_and c.from_residual.result c.from_residual.ensures.1 in
     let a = c.args in
-    tag-refused a.text.now a.list.now a.second.now (length a.output.now) c.requires.0 c.requires.1 c.read_tags-turn.result.fault (read (goal.at.returns-then-turn-ne0 c).After-read_tags-turn).fault
-    c.if-turn-ne0.true a.output.now _
+    let q = a.second.now in
+    let told =
+    good-beginning a.text.now (ended (goal.at.returns-in_err-read_tags c).After-new-sheet)
+    (c.in_err-read_tags.ensures q.image.now (ap (λ n. blocks q.image.now - n) q.rules_are)) in
+    rw (p.1, p.2) (refused _ (tag-fault a.text.now a.list.now q.image.now (length a.output.now) q.accepted c.requires told.fault) a.output.now _)
 
 pub returns-in-Err-reached : goal.returns-in-Err-reached
 returns-in-Err-reached c =
     let a = c.args in
-    form-refused a.text.now a.list.now a.second.now (length a.output.now) c.requires.0 c.requires.1 c.read_tags-turn.result.fault (read (goal.at.returns-in-Err-reached c).After-read_tags-turn).fault
-    c.if-turn-ne0.false c.in-Err-reached.ensures.0 c.in-Err-reached.field-0.0 (sym c.in-Err-reached.ensures.1) a.output.now _
+    let p = a.second.now in
+    let told = c.in-Err-reached.ensures in
+    refused _
+    (form-fault a.text.now a.list.now p.image.now (length a.output.now) p.accepted c.requires
+    (read (goal.at.returns-in-Err-reached c).In_ok-read_tags).fault told.0
+    ∙ ap (λ n. some (refusal 41 n 0)) told.1)
+    a.output.now _
 
 pub write_image-requires : goal.write_image-requires
 write_image-requires c =
     let a = c.args in
-    let r = (goal.at.write_image-requires c).After-read_tags-turn in
-    let f = image-fits a.text.now a.list.now a.second.now (length a.output.now) (no-fault r c.if-turn-ne0.false c.in_default.ensures.0) (read r) c.if-turn-ne0.false a.rules c.requires.2 c.read_tags-turn.auto.image in
+    let p = a.second.now in
+    let f = image-fits a.text.now a.list.now p.image.now (length a.output.now) (no-fault (goal.at.write_image-requires c).In_default)
+    (read (goal.at.write_image-requires c).In_ok-read_tags) p.rules p.rules_are in
     record { rules_in_bounds = f.0; first_bound = f.1 }
 
 pub returns : goal.returns
 returns c =
     let w = c.write_image in
     let a = c.args in
-    let r = (goal.at.returns c).After-read_tags-turn in
-    image-read a.text.now a.list.now a.second.now (length a.output.now) (no-fault r c.if-turn-ne0.false c.in_default.ensures.0) (read r) c.if-turn-ne0.false a.output.now
-    w.ensures.0 w.ensures.1
+    image-read a.text.now a.list.now a.second.now.image.now (length a.output.now) (no-fault (goal.at.returns c).In_default)
+    (read (goal.at.returns c).In_ok-read_tags) a.output.now w.ensures.0 w.ensures.1
