@@ -36,14 +36,8 @@ use Rattle.history.specs.Code.{shared_by, open_by, may_count, found_in, stands_b
 -- ---- where the records of a table stand
 
 module _ (s : List ℕ) (n : ℕ) (room : HasRoom s n) where
-  pub room-few : n ≤ 1920
-  room-few = omega (arith, room.most, room.few)
-
   pub record-inside : (k : ℕ) → k < n → record_start k + record_bytes ≤ length s
   record-inside k h = omega (arith, room.whole, room.most, room.few)
-
-  pub start-few : (k : ℕ) → k < n → record_start k < 65536
-  start-few k h = omega (arith, room.whole, room.most, room.few)
 
 -- ---- a record more
 

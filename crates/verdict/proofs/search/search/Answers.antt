@@ -1,11 +1,10 @@
 use Prim.Native.Nat.{◌<◌}
 use native.Mathlib.Omega.{arith}
-use mathlib.Core.Path.{◌≡◌, refl, sym, ap, ◌∙◌}
+use mathlib.Core.Path.{◌≡◌, sym, ap, ◌∙◌}
 use mathlib.Core.Option.{Option, some}
 use Rattle.format.specs.Answer.{Refusal}
 use mathlib.Core.Bool.{true}
 use Rattle.words.specs.Bytes.{bit}
-use Rattle.word_laws.proofs.First.{first-start}
 use Rattle.format.specs.Layout.{most_rules, most_exclusions}
 use Rattle.format.specs.Rule.{exclusion_at, good_exclusion}
 use Rattle.format.specs.Policy.{rule_count}
@@ -19,9 +18,6 @@ use Rattle.verdict.proofs.Searching.{fails_at, counts, rules-done, rule-silent, 
 use Rattle.verdict.proofs.search.search.Invariants.{fails}
 use Rattle.verdict.proofs.search.search.Goals.{After-reaches, In-rules, Else-not-has, In-loop-e}
 use Rattle.verdict.proofs.search.search.Goals as goal
-
-pub rules-init : goal.rules-init
-rules-init c = (refl, first-start _ _)
 
 -- the rule at hand is one of the policy's
 module _ (c : In-rules) where

@@ -1,4 +1,4 @@
-use Rattle.tally.proofs.Taken.{is_next, counting-none, counting_more, roles-taken, done-taken}
+use Rattle.tally.proofs.Taken.{is_next, counting_more, roles-taken, done-taken}
 use native.Mathlib.Omega.{arith}
 use mathlib.Core.Path.{◌≡◌, refl, ap, ◌∙◌}
 use lib.Bits.{bit_or}
@@ -10,9 +10,6 @@ returns-then-self-eq-OF_ROLES c x qs q of few e small =
     let a = c.args in
     roles-taken x qs q a.self _ of refl c.if-self-eq-OF_ROLES.true refl
     (c.or-self.ensures ∙ ap (λ (d : Deed). bit_or a.self.roles.0 d.roles.0) e)
-
-pub loop-member-init : goal.loop-member-init
-loop-member-init c = counting-none c.args.self.members c.args.deed.privilege.0
 
 pub loop-member-preserved : goal.loop-member-preserved
 loop-member-preserved c =
