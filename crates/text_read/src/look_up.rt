@@ -29,7 +29,7 @@ impl Source<'_> {
         if MOST_NAME_BYTES < n {
             return Err(TextRefusal::NotListed);
         }
-        number_of(self.list, kind, &name, 0, n).ok_or(TextRefusal::NotListed)
+        number_of(self.list, kind.code(), &name, 0, n).ok_or(TextRefusal::NotListed)
     }
 
     // The number of a role's name.

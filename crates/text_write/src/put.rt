@@ -41,7 +41,7 @@ pub fn put_name(
     requires { (good_names list.now ≡ true) × (at + most_name_bytes < 4294967296) }
     ensures { Puts most_name_bytes output.old at (name_text list.now (name_code kind) number) (name_lost list.now (name_code kind) number) output.new result }
 {
-    let Some(name) = name_of(list, kind, number) else {
+    let Some(name) = name_of(list, kind.code(), number) else {
         return Err(TextRefusal::NotListed);
     };
     Ok(put(output, at, name))

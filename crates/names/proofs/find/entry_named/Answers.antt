@@ -3,7 +3,6 @@ use mathlib.Core.Bool.{true, false}
 use Rattle.std.proofs.Common.{rules}
 use Rattle.std.proofs.lemmas.Iterator.{first_from_Range, serves_from_Range}
 use Rattle.xml.specs.Names.{names, name_in, number_of}
-use Rattle.names.specs.Code.{name_code}
 use Rattle.names.specs.Parts.{is_name}
 use Rattle.names.proofs.FirstHit.{first-found}
 use Rattle.names.proofs.GoodEntries.{good-at}
@@ -18,7 +17,7 @@ unfolding number_of
 returns c =
     let a = c.args in
     let l = a.list.now in
-    let t = is_name l (name_code a.kind) a.name.now in
+    let t = is_name l a.kind a.name.now in
     let hit =
     first_from_Range _ _ _ c.find.result (λ i. t i ≡ true) (λ i. t i ≡ false) c.find.ensures.ran (λ x q k. search rules) (λ x q k. search rules) in
     (first-found t (λ i. (name_in l i).number) (names l) c.find.result hit, search rules)

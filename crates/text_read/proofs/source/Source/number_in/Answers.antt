@@ -22,7 +22,7 @@ returns-then-n-gt-MOST_NAME_BYTES-clause-fault c =
 looked-up : (c : After-ok_or) → let a = c.args in number_found c.number_of.result ≡ number_of a.self.now.list.now (name_code a.kind) (value_at a.self.now.text.now a.s)
 looked-up c =
     let front = laid-front (replicate 60 0) c.squeeze-n.ensures.0 c.squeeze-n.ensures.1 c.if-n-gt-MOST_NAME_BYTES.false in
-    rw front at c.number_of.ensures
+    rw (front, c.code.ensures) at c.number_of.ensures
 
 pub returns-clause-fault : goal.returns-clause-fault
 returns-clause-fault c = rw c.ok_or.ensures.value (looked c.number_of.result _ (looked-up c))
