@@ -11,7 +11,11 @@ pub fn run_end(text: &[u8], at: usize, kind: ByteKind) -> usize
     requires { at ≤ length text.now }
     ensures { result ≡ run_end (kind_of kind) text.now at }
 {
-    at + text[at..].iter().take_while(|b| is_of(kind, **b)).count()
+    let rest = &text[at..];
+    at + rest
+        .iter()
+        .position(|b| !is_of(kind, *b))
+        .unwrap_or(rest.len())
 }
 
 // The same, where one must stand there.
