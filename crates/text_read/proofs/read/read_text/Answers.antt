@@ -13,7 +13,6 @@ use Rattle.xml_calls.specs.Calls.{read_fault}
 use Rattle.text_read.specs.Stands.{ReadIs}
 use Rattle.text_read.proofs.WholeFault.{reach-within, good-beginning, tag-refused, form-refused, faultless}
 use Rattle.text_read.proofs.WholeImage.{image-fits, image-read}
-use borrow.Author.Rules.{rules}
 use Rattle.text_read.proofs.read.read_text.Goals.{After-read_tags-turn, in-Ok, in-Err}
 use Rattle.text_read.proofs.read.read_text.Goals as goal
 
