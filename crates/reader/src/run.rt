@@ -6,7 +6,7 @@ ghost use Rattle.reader.specs.Scan.{run_end, RunsOn};
 use crate::misfit::Misfit;
 use forms::kind::{ByteKind, is_of};
 
-// Where the bytes of the kind end that stand at a place. A `match` on `position` was the fastest of five forms, a loop among them.
+// Where the bytes of the kind end that stand at a place. Timed in the engine, this is faster than a loop, and than `take_while` with `count`.
 pub fn run_end(text: &[u8], at: usize, kind: ByteKind) -> usize
     requires { at ≤ length text.now }
     ensures { result ≡ run_end (kind_of kind) text.now at }
