@@ -14,9 +14,6 @@ slice_bounds-result-end c =
     let good = entry_at c.args.list.now c.requires c.in_ok-i.i h in
     omega (arith, good.length_to)
 
-pub returns-in_err-i : goal.returns-in_err-i
-returns-in_err-i c = rw (c.from_residual.ensures) c.in_err-i.ensures.0
-
 pub returns : goal.returns
 unfolding name_in
 returns c =

@@ -14,11 +14,6 @@ returns-then-n-gt-MOST_NAME_BYTES c =
     let e = part_length a.text.now a.at a.n (omega arith) in
     sym (too_long a.list.now c.requires.0 (name_code a.kind) (part a.text.now a.at a.n) (omega arith))
 
-pub returns-in_err-i : goal.returns-in_err-i
-returns-in_err-i c =
-    let a = c.args in
-    rw (c.from_residual.ensures) (c.in_err-i.ensures.0 ∙ ap (number_of a.list.now (name_code a.kind)) (part-to a.text.now a.at a.n))
-
 pub returns : goal.returns
 unfolding name_in
 returns c =

@@ -1,6 +1,5 @@
 use native.Mathlib.Numerals.{add-one}
 use native.Mathlib.Omega.{arith}
-use mathlib.Core.Path.{◌≡◌}
 use Rattle.words.specs.Lists.{all_below}
 use borrow.Author.Rules.{rules}
 use Rattle.names.proofs.good.good_bytes.Goals as goal
@@ -12,7 +11,3 @@ loop-j-init c = search rules
 pub loop-j-preserved : goal.loop-j-preserved
 unfolding all_below
 loop-j-preserved c = (omega arith, rw add-one (cc))
-
-pub returns : goal.returns
-returns c =
-    let e : c.loop-j.j ≡ 60 = omega arith in rw e at c.loop-j.invariant.1
