@@ -1,24 +1,22 @@
 -- What the two calls come to, by the first row that applies: the policy's, the list's, or what lies behind them.
 -- Assumes nothing.
+use mathlib.Core.Path.{◌≡◌, refl, ◌∙◌}
 use Prim.Native.Nat.{ℕ}
-use mathlib.Core.Path.{◌≡◌, ap, ◌∙◌}
 use mathlib.Core.Bool.{true, false}
 use mathlib.Core.List.{List}
 use mathlib.Core.Option.{none, some}
 use lib.ListN.{length}
+use Rattle.std.specs.Prelude.{Result, Ok, Err}
 use Rattle.words.specs.First.{◌or_else◌, unless}
 use Rattle.word_laws.proofs.First.{unless-passes}
-use Rattle.format.specs.Answer.{Answer, refuse, Refusal, refusal, Outcome, refusing}
+use Rattle.format.specs.Answer.{refuse, Refusal, refusal, Outcome, refusing}
 use Rattle.format.specs.Policy.{policy_fault, policy_of}
+use Rattle.format.specs.declared.answer.TextRefusal.{TextRefusal}
 use Rattle.xml.specs.Names.{good_names, names_fault}
 use Rattle.xml_calls.specs.Calls.{resulting, read_fault, read_image, read_rules, write_fault, write_rules}
-use Rattle.text_write.specs.Wrote.{writing}
+use Rattle.text_write.specs.Wrote.{answer_of, writing}
 use Rattle.text_write.proofs.Whole.{writing-is}
-use Rattle.answers.specs.Code.{outcome}
-
--- an answer under another name
-answered : {a b : Answer} (s : List ℕ) {o : Outcome (List ℕ)} → a ≡ b → outcome b s ≡ o → outcome a s ≡ o
-answered s e h = ap (λ (x : Answer). outcome x s) e ∙ h
+use Rattle.answers.specs.Code.{converted_of, outcome}
 
 -- a good list passes its row
 names-pass : (l : List ℕ) → good_names l ≡ true → names_fault l ≡ none
@@ -30,29 +28,30 @@ module _ (text l second output : List ℕ) where
   unfolding read_rules read_fault refusing ◌or_else◌
   read-policy r e = rw e
 
-  pub read_names :
-      {a : Answer} → a ≡ refuse (refusal 42 0 0) → policy_fault second ≡ none → good_names l ≡ false → outcome a output ≡ read_rules text l second output
+  pub read-names : policy_fault second ≡ none → good_names l ≡ false → outcome (refuse (refusal 42 0 0)) output ≡ read_rules text l second output
   unfolding read_rules read_fault names_fault unless refusing ◌or_else◌
-  read_names is p e = answered output is (rw (p, e))
+  read-names p e = rw (p, e)
 
   -- what reading the text has come to is `read_rules` by its own words
-  pub read_is :
-      {a b : Answer} (s : List ℕ) → a ≡ b
-      → outcome b s ≡ refusing (read_fault text l second (length output)) output (resulting (read_image text l second) output)
-      → outcome a s ≡ read_rules text l second output
+  pub read-is : {o : Outcome (List ℕ)} → o ≡ refusing (read_fault text l second (length output)) output (resulting (read_image text l second) output)
+      → o ≡ read_rules text l second output
   unfolding read_rules
-  read_is s is e = answered s is e
+  read-is e = e
 
 module _ (policy l output : List ℕ) where
   pub write-policy : (r : Refusal) → policy_fault policy ≡ some r → outcome (refuse r) output ≡ write_rules policy l output
   unfolding write_rules write_fault refusing ◌or_else◌
   write-policy r e = rw e
 
-  pub write-names : {a : Answer} → a ≡ refuse (refusal 42 0 0) → policy_fault policy ≡ none → good_names l ≡ false → outcome a output ≡ write_rules policy l output
+  pub write-names : policy_fault policy ≡ none → good_names l ≡ false → outcome (refuse (refusal 42 0 0)) output ≡ write_rules policy l output
   unfolding write_rules write_fault names_fault unless refusing ◌or_else◌
-  write-names is p e = answered output is (rw (p, e))
+  write-names p e = rw (p, e)
 
   pub write-is :
-      {a b : Answer} (s : List ℕ) → policy_fault policy ≡ none → good_names l ≡ true → a ≡ b → outcome b s ≡ writing l (policy_of policy) output
-      → outcome a s ≡ write_rules policy l output
-  write-is s p e is h = answered s is (h ∙ writing-is policy l output p (names-pass l e))
+      (r : Result ℕ TextRefusal) (s : List ℕ) → policy_fault policy ≡ none → good_names l ≡ true
+      → outcome (answer_of r) s ≡ writing l (policy_of policy) output → outcome (converted_of r) s ≡ write_rules policy l output
+  write-is r s p e h = same r ∙ h ∙ writing-is policy l output p (names-pass l e)
+    where
+      same : (x : Result ℕ TextRefusal) → outcome (converted_of x) s ≡ outcome (answer_of x) s
+      same (Ok n) = refl
+      same (Err f) = refl

@@ -3,5 +3,4 @@
 #![tactic(auto)]
 
 pub mod reading;
-pub mod reply;
 pub mod writing;

@@ -1,13 +1,16 @@
-use mathlib.Core.Path.{sym, ap, ◌∙◌}
-use Rattle.format.specs.Code.{fault_of}
-use Rattle.conversion.proofs.Rows.{read-policy}
+use mathlib.Core.Path.{sym, ◌∙◌}
+use Rattle.std.proofs.lemmas.Result.{err_from_is_err_and}
+use Rattle.conversion.proofs.Rows.{read-policy, read-names, read-is}
 use Rattle.conversion.proofs.reading.read_rules.Goals as goal
 
-pub read_beside-requires : goal.read_beside-requires
-read_beside-requires c = sym c.policy_fault-fault.ensures ∙ ap fault_of c.in-Nothing.is
+pub returns-in_err-second : goal.returns-in_err-second
+returns-in_err-second c =
+    let p = err_from_is_err_and c.from_residual.result c.from_residual.ensures.1 in
+    rw (p.1, p.2) (read-policy _ _ _ _ _ (sym c.in_err-second.ensures.fault))
 
-pub returns-in-At : goal.returns-in-At
-returns-in-At c = read-policy _ _ _ _ _ (sym c.policy_fault-fault.ensures ∙ ap fault_of c.in-At.is)
+pub returns-then-not-good_names : goal.returns-then-not-good_names
+returns-then-not-good_names c =
+    read-names _ _ _ _ (sym c.in_ok-second.ensures.fault) (sym c.good_names.ensures ∙ c.if-not-good_names.true)
 
-pub returns-in-Nothing : goal.returns-in-Nothing
-returns-in-Nothing c = c.read_beside.ensures
+pub returns : goal.returns
+returns c = read-is _ _ _ _ (rw c.in_ok-second.ensures.image at c.read_text.ensures)
