@@ -1,6 +1,7 @@
 -- The records that a closing leaves, record by record; and a level of a context and of a request, compared as words.
 -- Assumes nothing.
 use Prim.Native.Nat.{ℕ, ◌+◌, ◌*◌, ◌<◌, ◌≤◌}
+use native.Mathlib.Omega.{arith}
 use mathlib.Core.Path.{◌≡◌, refl, sym, ap, ap₂, ◌∙◌}
 use mathlib.Core.Bool.{Bool, true, false, cond, not, ◌&&◌}
 use mathlib.Core.List.{List, [], ◌∷◌}
@@ -15,9 +16,11 @@ use Rattle.format.specs.Layout.{most_levels, request_bytes}
 use Rattle.format.specs.Request.{context_of, used_level, depth_of}
 use Rattle.format.specs.Context.{same_level, begins}
 use Rattle.format.specs.Table.{Record}
+use Rattle.format.specs.Records.{record_here}
 use Rattle.judge.specs.Close.{closed, closed_out}
 use Rattle.request_check.proofs.RequestWords.{halves-same, low, high, type-word, value-word}
-use Rattle.clearing.specs.Settling.{OneByOne}
+use Rattle.fields.specs.declared.blocks.BlockSet.{BlockSet}
+use Rattle.clearing.specs.Settling.{OneByOne, Settling, StayIn}
 
 -- ---- what is left
 
@@ -39,6 +42,12 @@ module _ (c : List ℕ) where
   pub closed-split : (rs : List Record) → closed_out c rs + length (closed c rs) ≡ length rs
   unfolding closed closed_out
   closed-split rs = keep-split (λ (x : Record). begins c x.request) rs
+
+  -- a record that is not named stays as it is, where it was
+  module _ {s : List ℕ} {i : ℕ} {t : List ℕ} {j : ℕ} {set : BlockSet} (w : Settling (closed c) s i t j set) where
+    pub closed-stay : (from to : ℕ) → i ≤ from → ((k : ℕ) → from ≤ k → k < to → begins c (record_here t k).request ≡ false) → StayIn (closed c) s from to
+    closed-stay from to behind out k lo hi =
+        closed-one (record_here s k) (ap (λ (r : Record). begins c r.request) (sym (w.placed.behind k (omega (arith, w.few)))) ∙ out k lo hi)
 
 -- ---- a level
 

@@ -1,10 +1,10 @@
 // What a closing leaves of a table's records: those whose context begins with the levels that it names go, "Other records keep the marks they had."
-ghost use Rattle.std.specs.Prelude.{◌≡◌, ◌+◌, ◌<◌, ◌≤◌, length};
+ghost use Rattle.std.specs.Prelude.{◌≡◌, false, ℕ, ◌+◌, ◌<◌, ◌≤◌, length};
 ghost use Rattle.words.specs.Bytes.{part};
 ghost use Rattle.format.specs.Layout.{request_bytes, most_levels};
 ghost use Rattle.format.specs.Request.{context_of, depth_of};
 ghost use Rattle.format.specs.Context.{begins as begins_of, same_level as same_level_of};
-ghost use Rattle.format.specs.Records.{records_here};
+ghost use Rattle.format.specs.Records.{record_here, records_here};
 ghost use Rattle.judge.specs.Close.{closed};
 ghost use Rattle.fields.specs.Code.{HasRoom};
 ghost use Rattle.table_write.specs.Writing.{Placed};
@@ -15,6 +15,7 @@ use fields::field::u32_at;
 use fields::layout::{CONTEXT_AT, CONTEXT_BYTES, CONTEXT_LEVEL_BYTES};
 use fields::request;
 use fields::sets::RuleSet;
+use fields::tables::record_start;
 use request_check::context::depth;
 
 // Level i of the context of the request at a byte is that of a context. It is one word: its type and its value are compared at once.
@@ -33,6 +34,19 @@ fn begins(context: &[u8; CONTEXT_BYTES], levels: u32, s: &[u8], at: usize) -> bo
     ensures { result ≡ begins_of context.now (part s.now at request_bytes) }
 {
     (0..levels).all(|i| same_level(context, s, at, i))
+}
+
+// The first place of a record that the context names, below n; n, if it names none.
+fn first_named(context: &[u8; CONTEXT_BYTES], levels: u32, table: &[u8], n: usize) -> usize
+    requires { (levels ≡ depth_of context.now) × (HasRoom table.now n) }
+    ensures { (result ≤ n) × ((k : ℕ) → k < result → begins_of context.now (record_here table.now k).request ≡ false) }
+{
+    for i in 0..n {
+        if begins(context, levels, table, record_start(i)) {
+            return i;
+        }
+    }
+    n
 }
 
 // A context that is closed, and how many levels it uses: a record that it names goes.
@@ -56,16 +70,18 @@ impl Fate for Closing<'_> {
     }
 }
 
-// Moves the records that the context does not name to the front, in their order and with their marks.
+// Moves the records that the context does not name to the front, in their order and with their marks. Those in front of the first that it names stay where
+// they are, and are not settled.
 pub fn close_records(context: &[u8; CONTEXT_BYTES], table: &mut [u8], n: usize) -> Settled
     requires { HasRoom table.old n }
     ensures { (records_here table.new result.held ≡ closed context.now (records_here table.old n)) × (Placed table.old table.new result.held result.changed) }
 {
     let levels = depth(context, 0);
     let closing = Closing { context, levels };
+    let first = first_named(context, levels, table, n);
     let start = Settled {
-        held: 0,
+        held: first,
         changed: BlockSet::none(),
     };
-    settle_records(&closing, table, 0, n, start)
+    settle_records(&closing, table, first, n, start)
 }

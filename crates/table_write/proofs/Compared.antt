@@ -12,7 +12,7 @@ use Rattle.words.specs.Bytes.{u32_at, bytes4, part}
 use Rattle.word_laws.proofs.Same.{same_refl, same-eq, same-append}
 use Rattle.word_laws.proofs.Every.{Every}
 use Rattle.word_laws.proofs.Bytes.{Byte, read4, u32_at-below}
-use Rattle.table_write.proofs.Words.{word_more, part_length}
+use Rattle.table_write.proofs.Copied.{word_more, part_length}
 
 -- the bytes of two numbers are the same where the numbers are
 word_same : (u v : ℕ) → u < 4294967296 → v < 4294967296 → same_list (bytes4 u) (bytes4 v) ≡ eqb u v

@@ -2,7 +2,7 @@ pub mod SliceBytes
 pub mod Over
 pub mod Sealing
 pub mod Parts
-pub mod Words
+pub mod Copied
 pub mod Compared
 pub mod Records
 pub mod TableWritten

@@ -5,7 +5,7 @@ use Prim.Native.Nat.{ℕ, ◌+◌, ◌*◌, ◌/◌, ◌%◌, ◌≤◌, ◌<◌
 use native.Mathlib.Decide.{dec_lt}
 use native.Mathlib.Omega.{arith}
 use mathlib.Core.Path.{◌≡◌, refl, sym, ap, ap₂, ◌∙◌}
-use mathlib.Core.Bool.{Bool, true, false, cond, not, ◌&&◌, ◌||◌, false≢true, and-true, and-false}
+use mathlib.Core.Bool.{Bool, true, false, cond, not, ◌&&◌, ◌||◌, false≢true, and-true, and-false, or-true}
 use mathlib.Core.List.{List, ◌++◌}
 use borrow.Author.Tests.{eqb-true, eqb-false, eq-eqb, ne_eqb, lt-leb, le-leb, lt-ltb, le-ltb}
 use lib.ListN.{length, drop, take-append-drop}
@@ -59,12 +59,29 @@ noted_other s j r set set' differs grown k =
     grown k
     ∙ sym (ap (λ (b : Bool). (eqb k (j / block_records) && not b) || has_block set k) differs ∙ ap (λ (b : Bool). b || has_block set k) (and-true (eqb k (j / block_records))))
 
+pub noted-known :
+    (s : List ℕ) (j : ℕ) (r : Record) (set : BlockSet) → has_block set (j / block_records) ≡ true → Noted s j r set set
+noted-known s j r set known k = go (eqb k (j / block_records)) refl
+  where
+    go : (b : Bool) → eqb k (j / block_records) ≡ b → has_block set k ≡ (b && not (same_record (record_here s j) r)) || has_block set k
+    go true e = let on : has_block set k ≡ true = ap (has_block set) (eqb-true k (j / block_records) e) ∙ known in rw on (sym (or-true (not (same_record (record_here s j) r))))
+    go false e = refl
+
 -- with its own request only the marks are compared
 pub same-marks : (r : Record) (m : ℕ) → same_record r (record { request = r.request; marks = m }) ≡ eqb r.marks m
 unfolding same_record
 same-marks r m = rw (same_refl r.request)
 
--- so a place has been filled, as told by what stood there, at a byte
+-- so a place has been filled: where its block is noted already,
+module _ (s : List ℕ) (j to : ℕ) (at : to ≡ record_start j) (q q' : List ℕ) (is : q ≡ q') (m : ℕ) (set : BlockSet) where
+  pub filled-known : {s' : List ℕ} → has_block set (j / block_records) ≡ true → s' ≡ over s to record_bytes (q ++ bytes4 m)
+      → (s' ≡ record_put s j q' m) × Noted s j (record { request = q'; marks = m }) set set
+  filled-known known put = (
+    put ∙ ap₂ {C = List ℕ} (λ (x : ℕ) (y : List ℕ). over s x record_bytes (y ++ bytes4 m)) at is,
+    noted-known s j (record { request = q'; marks = m }) set known,
+  )
+
+-- and as told by what stood there, at a byte
 module _ (s : List ℕ) (j to : ℕ) (at : to ≡ record_start j) (q q' : List ℕ) (is : q ≡ q') (m : ℕ) {b : Bool}
     (told : b ≡ same_record (record_from s to) (record { request = q; marks = m })) (set : BlockSet) where
   stood : b ≡ same_record (record_here s j) (record { request = q'; marks = m })

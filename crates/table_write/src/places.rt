@@ -17,30 +17,31 @@ use fields::tables::{Blocks, record_start};
 
 // ---- bytes
 
-// The n words at a byte of a slice are the first of another. No early exit: the compiler compares many bytes at once.
-fn same_words(s: &[u8], at: usize, other: &[u8], n: usize) -> bool
-    requires { (at + 4 * n ≤ length s.now) × (4 * n ≤ length other.now) }
-    ensures { result ≡ same_list (part s.now at (4 * n)) (take (4 * n) other.now) }
+// Copies n words to a byte that is not behind their own: a word is read before it is written over. Copied out as an array, and put from there, records were
+// moved slower: decisions and closings that move them took 1.10 to 1.26 of the time.
+fn move_words(s: &mut [u8], from: usize, to: usize, n: usize)
+    requires { (to ≤ from) × (from + 4 * n ≤ length s.old) }
+    ensures { s.new ≡ over s.old to (4 * n) (part s.old from (4 * n)) }
+{
+    for i in 0..n {
+        let word = u32_at(s, from + 4 * i);
+        put_u32(s, to + 4 * i, word);
+    }
+}
+
+// The n words at a byte of one slice are those at a byte of another. No early exit: the compiler compares many bytes at once.
+fn same_words(s: &[u8], at: usize, other: &[u8], from: usize, n: usize) -> bool
+    requires { (at + 4 * n ≤ length s.now) × (from + 4 * n ≤ length other.now) }
+    ensures { result ≡ same_list (part s.now at (4 * n)) (part other.now from (4 * n)) }
 {
     let mut same = true;
     for i in 0..n {
-        same = same & (u32_at(s, at + 4 * i) == u32_at(other, 4 * i));
+        same = same & (u32_at(s, at + 4 * i) == u32_at(other, from + 4 * i));
     }
     same
 }
 
 // ---- a record at a byte
-
-// The request that begins at a byte.
-fn request_at(s: &[u8], at: usize) -> &[u8; REQUEST_BYTES]
-    requires { at + request_bytes ≤ length s.now }
-    ensures { result.now ≡ part s.now at request_bytes }
-{
-    let Ok(request) = s[at..at + REQUEST_BYTES].try_into() else {
-        unreachable!()
-    };
-    request
-}
 
 // Puts a record, a request and its marks, at a byte.
 fn put_record(table: &mut [u8], at: usize, request: &[u8; REQUEST_BYTES], marks: RuleSet)
@@ -51,15 +52,24 @@ fn put_record(table: &mut [u8], at: usize, request: &[u8; REQUEST_BYTES], marks:
     put_u32(table, at + MARKS_AT, marks.0);
 }
 
-// The record at a byte has this request and these marks. Where no record is there are no marks, so marks come first.
-fn stands(table: &[u8], at: usize, request: &[u8; REQUEST_BYTES], marks: RuleSet) -> bool
-    requires { at + record_bytes ≤ length table.now }
-    ensures { result ≡ same_record (record_from table.now at) (record { request = request.now; marks = marks.0 }) }
+// Puts the record that begins at one byte at another that is not behind it, with these marks.
+fn move_record(table: &mut [u8], from: usize, to: usize, marks: RuleSet)
+    requires { (to ≤ from) × (from + record_bytes ≤ length table.old) }
+    ensures { table.new ≡ over table.old to record_bytes (part table.old from request_bytes ++ bytes4 marks.0) }
 {
-    if request::marks(table, at).0 != marks.0 {
+    move_words(table, from, to, REQUEST_WORDS);
+    put_u32(table, to + MARKS_AT, marks.0);
+}
+
+// The record at a byte is the request that begins at a byte of a slice, with these marks. Where no record is there are no marks, so marks come first.
+fn stands(table: &[u8], to: usize, request: &[u8], from: usize, marks: RuleSet) -> bool
+    requires { (to + record_bytes ≤ length table.now) × (from + request_bytes ≤ length request.now) }
+    ensures { result ≡ same_record (record_from table.now to) (record { request = part request.entry.now from request_bytes; marks = marks.0 }) }
+{
+    if request::marks(table, to).0 != marks.0 {
         return false;
     }
-    same_words(table, at, request, REQUEST_WORDS)
+    same_words(table, to, request, from, REQUEST_WORDS)
 }
 
 // ---- a record at its place
@@ -78,7 +88,26 @@ pub fn remark(table: &mut [u8], i: usize, marks: RuleSet, changed: BlockSet) -> 
     changed.with(i / Blocks::RECORDS)
 }
 
-// Puts a request, with these marks, at a place. Its block is added to a set if another record stood there.
+// Puts record i, with these marks, at a place before it. Its block is added to a set if another record stood there: where it is in the set already,
+// there is nothing to compare.
+pub fn place(table: &mut [u8], i: usize, j: usize, marks: RuleSet, changed: BlockSet) -> BlockSet
+    requires { (j ≤ i) × (HasRoom table.old (i + 1)) }
+    ensures { (table.new ≡ over table.old (record_start j) record_bytes ((record_here table.old i).request ++ bytes4 marks.0)) × (Noted table.old j (record { request = (record_here table.old i).request; marks = marks.0 }) changed result) }
+{
+    let from = record_start(i);
+    let to = record_start(j);
+    if changed.has(j / Blocks::RECORDS) {
+        move_record(table, from, to, marks);
+        return changed;
+    }
+    if stands(table, to, table, from, marks) {
+        return changed;
+    }
+    move_record(table, from, to, marks);
+    changed.with(j / Blocks::RECORDS)
+}
+
+// The same with a request that stands elsewhere.
 pub fn place_request(
     table: &mut [u8],
     j: usize,
@@ -90,24 +119,11 @@ pub fn place_request(
     ensures { (table.new ≡ over table.old (record_start j) record_bytes (q.now ++ bytes4 marks.0)) × (Noted table.old j (record { request = q.now; marks = marks.0 }) changed result) }
 {
     let to = record_start(j);
-    if stands(table, to, q, marks) {
+    if stands(table, to, q, 0, marks) {
         return changed;
     }
     put_record(table, to, q, marks);
     changed.with(j / Blocks::RECORDS)
-}
-
-// Puts record i, with these marks, at a place before it. Where that place's block is in the set already there is nothing to compare.
-pub fn place(table: &mut [u8], i: usize, j: usize, marks: RuleSet, changed: BlockSet) -> BlockSet
-    requires { (j ≤ i) × (HasRoom table.old (i + 1)) }
-    ensures { (table.new ≡ over table.old (record_start j) record_bytes ((record_here table.old i).request ++ bytes4 marks.0)) × (Noted table.old j (record { request = (record_here table.old i).request; marks = marks.0 }) changed result) }
-{
-    let request = *request_at(table, record_start(i));
-    if changed.has(j / Blocks::RECORDS) {
-        put_record(table, record_start(j), &request, marks);
-        return changed;
-    }
-    place_request(table, j, &request, marks, changed)
 }
 
 // ---- more records, or fewer

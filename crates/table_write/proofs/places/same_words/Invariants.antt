@@ -5,4 +5,4 @@ use Rattle.words.specs.Bytes.{part}
 use Rattle.table_write.proofs.places.same_words.Given as goal
 
 abbrev pub invariant-loop-i : goal.invariant-loop-i
-invariant-loop-i l = (l.i ≤ l.n) × (l.same ≡ same_list (part l.s l.at (4 * l.i)) (part l.other 0 (4 * l.i)))
+invariant-loop-i l = (l.i ≤ l.n) × (l.same ≡ same_list (part l.s l.at (4 * l.i)) (part l.other l.from (4 * l.i)))

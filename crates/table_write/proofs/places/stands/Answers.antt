@@ -1,11 +1,10 @@
 use Prim.Native.Nat.{ℕ}
 use mathlib.Core.Path.{◌≡◌, sym, ap, ◌∙◌}
 use mathlib.Core.Bool.{Bool, false, ◌&&◌, and-true, and-false}
-use native.Mathlib.Omega.{arith}
-use lib.Seq.{take_all}
 use borrow.Author.Tests.{eq-eqb, ne_eqb}
 use Rattle.words.specs.Lists.{same_list}
 use Rattle.words.specs.Bytes.{part}
+use Rattle.format.specs.Layout.{request_bytes}
 use Rattle.format.specs.Table.{Record}
 use Rattle.format.specs.Records.{record_from}
 use Rattle.format.specs.Altered.{same_record}
@@ -25,10 +24,10 @@ module _ (r r' : Record) (x : ℕ) (is : x ≡ r.marks) where
 pub returns-then-marks : goal.returns-then-marks
 returns-then-marks c =
     let a = c.args in
-    others (record_from a.table.now a.at) (record { request = a.request.now; marks = a.marks.0 }) c.marks.result.0 c.marks.ensures c.if-marks.true
+    others (record_from a.table.now a.to) (record { request = part a.request.now a.from request_bytes; marks = a.marks.0 }) c.marks.result.0 c.marks.ensures c.if-marks.true
 
 pub returns : goal.returns
 returns c =
     let a = c.args in
-    alike (record_from a.table.now a.at) (record { request = a.request.now; marks = a.marks.0 }) c.marks.result.0 c.marks.ensures c.if-marks.false
-    (c.same_words.ensures ∙ ap (same_list (part a.table.now a.at 28)) (take_all 28 a.request.now (omega arith)))
+    alike (record_from a.table.now a.to) (record { request = part a.request.now a.from request_bytes; marks = a.marks.0 }) c.marks.result.0 c.marks.ensures
+    c.if-marks.false c.same_words.ensures
