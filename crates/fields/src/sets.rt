@@ -1,5 +1,5 @@
 // Sets of roles and sets of rules, each as the bits of a number. They are different types: one passed for the other does not build.
-ghost use Rattle.std.specs.Prelude.{◌≡◌, ◌-◌, ◌<◌, ◌≤◌, eqb};
+ghost use Rattle.std.specs.Prelude.{◌≡◌, ◌-◌, ◌^◌, ◌<◌, ◌≤◌, eqb, ltb};
 ghost use Rattle.std.specs.Int.Bits.{bit_and, bit_or};
 ghost use Rattle.words.specs.Bytes.{bit as bit_of};
 
@@ -38,6 +38,14 @@ impl RuleSet {
         ensures { result ≡ bit_of i self.0 }
     {
         bit(self.0, i)
+    }
+
+    // None of them has this index or a higher one.
+    pub fn none_from(self, i: u32) -> bool
+        requires { i ≤ 32 }
+        ensures { result ≡ ltb self.0 (2 ^ i) }
+    {
+        (self.0 as u64) < 1u64 << i
     }
 
     // There is none.

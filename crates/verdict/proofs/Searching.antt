@@ -1,14 +1,18 @@
 -- Step 3: the search through the rules that judge and their exclusions.
 -- Assumes nothing.
-use Prim.Native.Nat.{ℕ, ◌+◌, ◌-◌, ◌≤◌, ◌<◌}
+use Prim.Native.Nat.{ℕ, ◌+◌, ◌-◌, ◌^◌, ◌≤◌, ◌<◌}
 use native.Mathlib.Omega.{arith}
-use mathlib.Core.Path.{◌≡◌, refl, sym, ◌∙◌}
+use mathlib.Core.Path.{◌≡◌, refl, sym, ap, ◌∙◌}
 use mathlib.Core.Bool.{Bool, true, false, not}
 use mathlib.Core.List.{List, [], ◌∷◌, ◌++◌}
 use mathlib.Core.Option.{Option, none, some}
+use lib.Dec.{ltb}
+use borrow.Author.Tests.{ltb-true}
 use Rattle.words.specs.First.{unless, first}
 use Rattle.words.specs.Bytes.{byte_at, bit}
 use Rattle.word_laws.proofs.First.{first_more, first-none}
+use Rattle.word_laws.proofs.Bits.{bit-beyond}
+use Rattle.word_laws.proofs.BitLaws.{bits_of}
 use Rattle.format.specs.Answer.{Refusal, refusal}
 use Rattle.format.specs.Layout.{most_rules, exclusions_at}
 use Rattle.format.specs.Block.{block}
@@ -51,11 +55,18 @@ module _ (policy : List ℕ) (rules : ℕ) (each : Each) (q : Request) (table fo
         → left (rule_fails policy rules each q table found) (fails_at b i (counts each q table found i)) i most_rules 0 n ≡ t
     rule-judges b n e f k = row-enter (rule_fails policy rules each q table found) (fails_at b i (counts each q table found i)) i most_rules n h l (heard b n e f k)
 
--- the rules end where no more are the policy's
-module _ (policy : List ℕ) (rules : ℕ) (each : Each) (q : Request) (table found : List ℕ) (judging : JudgingRules policy rules) where
-  pub rules-done : {t : Option Refusal} (i : ℕ) → first (rule_fails policy rules each q table found) i (most_rules - i) ≡ t → rule_count policy ≤ i → none ≡ t
-  rules-done i h past =
-      sym (first-none (rule_fails policy rules each q table found) i (most_rules - i) (λ j lo hi. silent policy rules each q table found j (off (bit j rules) refl (omega arith)))) ∙ h
+-- the rules end where none that judges has an index as high: where no more are the policy's, at the latest
+module _ (policy : List ℕ) (rules : ℕ) (each : Each) (q : Request) (table found : List ℕ) {t : Option Refusal} (i : ℕ) where
+  rules-off : first (rule_fails policy rules each q table found) i (most_rules - i) ≡ t → ((j : ℕ) → i ≤ j → bit j rules ≡ false) → none ≡ t
+  rules-off h off =
+      sym (first-none (rule_fails policy rules each q table found) i (most_rules - i) (λ j lo hi. silent policy rules each q table found j (off j lo))) ∙ h
+
+  pub rules-none : first (rule_fails policy rules each q table found) i (most_rules - i) ≡ t → ltb rules (2 ^ i) ≡ true → none ≡ t
+  rules-none h few =
+      rules-off h (λ j lo. ap (bit j) (bits_of i rules (ltb-true rules (2 ^ i) few)) ∙ bit-beyond i (λ k. bit k rules) j lo)
+
+  pub rules-done : JudgingRules policy rules → first (rule_fails policy rules each q table found) i (most_rules - i) ≡ t → rule_count policy ≤ i → none ≡ t
+  rules-done judging h past = rules-off h (λ j lo. off (bit j rules) refl (omega arith))
     where
       off : {j : ℕ} (b : Bool) → bit j rules ≡ b → rule_count policy ≤ j → bit j rules ≡ false
       off true e le = absurd (omega (arith, judging.below _ e))

@@ -53,6 +53,10 @@ pub fn search(
 {
     let mut answer = Ok(());
     'rules: for i in 0..policy.rules {
+        // Behind the highest rule that judges there is nothing to ask.
+        if judging.rules.none_from(i) {
+            break 'rules;
+        }
         if !judging.rules.has(i) {
             continue 'rules;
         }

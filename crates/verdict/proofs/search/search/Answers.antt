@@ -14,7 +14,7 @@ use Rattle.history.specs.Code.{past_by}
 use Rattle.history.proofs.Standing.{past-small}
 use Rattle.verdict.proofs.AcceptedEntries.{exclusion-ready}
 use Rattle.verdict.proofs.Nested.{row-hit, row_more, row_done}
-use Rattle.verdict.proofs.Searching.{fails_at, counts, rules-done, rule-silent, rule-judges, exclusion-fails, exclusion-passes}
+use Rattle.verdict.proofs.Searching.{fails_at, counts, rules-none, rules-done, rule-silent, rule-judges, exclusion-fails, exclusion-passes}
 use Rattle.verdict.proofs.search.search.Invariants.{fails}
 use Rattle.verdict.proofs.search.search.Goals.{After-reaches, In-rules, Else-not-has, In-loop-e}
 use Rattle.verdict.proofs.search.search.Goals as goal
@@ -26,6 +26,9 @@ module _ (c : In-rules) where
 
   low : c.rules.i < most_rules
   low = let p = c.args.policy.now in omega (arith, below, rules-most p.image.now p.accepted)
+
+pub none_from-requires : goal.none_from-requires
+none_from-requires c = omega (arith, low (goal.at.none_from-requires c).In-rules)
 
 pub has-requires : goal.has-requires
 has-requires c = low (goal.at.has-requires c).In-rules
@@ -103,7 +106,14 @@ returns-after-rules c =
     let r = c.rules in
     let p = a.policy.now in
     rw r.invariant.0
-    (rules-done p.image.now a.judging.rules.0 a.judging.each a.q.now a.table.now a.found.now c.requires.judging_rules r.i r.invariant.1 (omega (arith, p.rules_are)))
+    (rules-done p.image.now a.judging.rules.0 a.judging.each a.q.now a.table.now a.found.now r.i c.requires.judging_rules r.invariant.1 (omega (arith, p.rules_are)))
+
+pub returns-then-none_from : goal.returns-then-none_from
+returns-then-none_from c =
+    let a = c.args in
+    let r = c.rules in
+    rw r.invariant.0
+    (rules-none a.policy.now.image.now a.judging.rules.0 a.judging.each a.q.now a.table.now a.found.now r.i r.invariant.1 (sym c.none_from.ensures ∙ c.if-none_from.true))
 
 pub returns-then-reaches : goal.returns-then-reaches
 returns-then-reaches c =
