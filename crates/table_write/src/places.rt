@@ -17,8 +17,8 @@ use fields::tables::{Blocks, record_start};
 
 // ---- bytes
 
-// Copies n words to a byte that is not behind their own: a word is read before it is written over. Copied out as an array, and put from there, records were
-// moved slower: decisions and closings that move them took 1.10 to 1.26 of the time.
+// Copies n words to a byte that is not behind their own: a word is read before it is written over. With the request copied out as an array, and put from
+// there, last steps that move records took 1.11 to 1.16 of the time.
 fn move_words(s: &mut [u8], from: usize, to: usize, n: usize)
     requires { (to ≤ from) × (from + 4 * n ≤ length s.old) }
     ensures { s.new ≡ over s.old to (4 * n) (part s.old from (4 * n)) }
@@ -74,8 +74,8 @@ fn stands(table: &[u8], to: usize, request: &[u8], from: usize, marks: RuleSet) 
 
 // ---- a record at its place
 
-// Puts other marks on record i. Its block is added to a set if they are others. It is `place` at its own place, but its request is not looked at:
-// a step that clears marks of many records and removes none is as quick as it must be by that.
+// Puts other marks on record i. Its block is added to a set if they are others. It does what `place` does at a record's own place, but reads and writes 4
+// bytes of its 32.
 pub fn remark(table: &mut [u8], i: usize, marks: RuleSet, changed: BlockSet) -> BlockSet
     requires { HasRoom table.old (i + 1) }
     ensures { (table.new ≡ over table.old (record_start i) record_bytes ((record_here table.old i).request ++ bytes4 marks.0)) × (Noted table.old i (record { request = (record_here table.old i).request; marks = marks.0 }) changed result) }
