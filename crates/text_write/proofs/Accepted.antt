@@ -1,6 +1,6 @@
 -- The rules of an accepted policy can be written.
 -- Assumes nothing.
-use Prim.Native.Nat.{ℕ, ◌*◌, ◌<◌}
+use Prim.Native.Nat.{ℕ, ◌<◌}
 use native.Mathlib.Omega.{arith}
 use mathlib.Core.Path.{◌≡◌}
 use mathlib.Core.Bool.{Bool, true, ◌&&◌, ◌||◌}
@@ -10,12 +10,10 @@ use lib.Dec.{eqb, leb, ltb}
 use borrow.Author.Tests.{leb-true}
 use Rattle.words.specs.Lists.{all_below}
 use Rattle.word_laws.proofs.Tests.{both_first, both-second}
-use Rattle.word_laws.proofs.Parts.{part_length}
-use Rattle.format.specs.Layout.{block_bytes}
 use Rattle.format.specs.Block.{block}
 use Rattle.format.specs.Rule.{Exclusion, rule_at, good_roles, good_privileges, good_exclusion, blank_privilege}
 use Rattle.format.specs.Policy.{policy_fault, rule_count}
-use Rattle.format_laws.proofs.AcceptedPolicy.{rule-inside, depth-few, exclusions-few, exclusion-good}
+use Rattle.format_laws.proofs.AcceptedPolicy.{depth-few, exclusions-few, exclusion-good}
 use Rattle.text_write.specs.Pieces.{Countable, Writable}
 
 -- a good exclusion has at most eight members, and m of one digit
@@ -44,7 +42,6 @@ pub writable : (s : List ℕ) → policy_fault s ≡ none → (k : ℕ) → k < 
 unfolding rule_at
 writable s accepted k h =
     record {
-      whole = part_length s (block_bytes * k) block_bytes (rule-inside s accepted k h);
       depth = depth-few s accepted k h;
       exclusions = exclusions-few s accepted k h;
       each = λ e g. countable ((rule_at (block s k)).exclusion e) (exclusion-good s accepted k h e g);

@@ -5,17 +5,21 @@ use native.Mathlib.Nat.{add-zero, add-suc, suc-add, add_assoc}
 use native.Mathlib.Numerals.{add-one}
 use native.Mathlib.Omega.{arith}
 use mathlib.Core.Path.{◌≡◌, refl, sym, ◌∙◌}
-use mathlib.Core.Bool.{Bool, false, ◌||◌, or-false, or_assoc}
+use mathlib.Core.Bool.{Bool, true, false}
 use mathlib.Core.List.{List, [], ◌∷◌, ◌++◌, flatten, append-nil, append_assoc}
-use lib.ListN.{length, get_or, set, drop, length-append, length-drop}
-use lib.Seq.{sets-eq, length-sets, take-suc, get_or-drop}
+use lib.ListN.{length, get_or, set, take, drop, length-append, length-take}
+use lib.Seq.{sets-eq, length-sets, take-suc}
 use Rattle.words.specs.Lists.{tab, any_below}
-use Rattle.words.specs.Bytes.{part}
 use Rattle.word_laws.proofs.Lists.{tab-next}
-use Rattle.word_laws.proofs.Parts.{part_length}
+use Rattle.word_laws.proofs.Tests.{any_below-at}
 use Rattle.word_laws.proofs.Below.{any-more}
-use Rattle.text_write.specs.Laid.{laid, Lays}
-use Rattle.text_write.specs.declared.put.Pen.{Pen}
+use Rattle.std.specs.declared.result.Result.{Result}
+use Rattle.std.specs.Result.{IsErrAnd}
+use Rattle.std.proofs.lemmas.Result.{err_from_is_err_and}
+use Rattle.std.specs.declared.result.Result.TheVariants.{Ok, Err}
+use Rattle.format.specs.declared.answer.TextRefusal.{TextRefusal}
+use Rattle.format.specs.declared.answer.TextRefusal.TheVariants.{NotListed}
+use Rattle.text_write.specs.Laid.{laid, Lays, Puts}
 
 -- ---- bytes
 
@@ -46,52 +50,59 @@ laid_one : (o : List ℕ) (a x : ℕ) → set o a x ≡ laid o a (x ∷ [])
 unfolding laid
 laid_one o a x = refl
 
--- a loop's turn: one byte more of a part of a list
-pub laid_more : (o s : List ℕ) (a f i : ℕ) {x y : List ℕ} → f + i < length s → x ≡ laid o a (part s f i) → y ≡ set x (a + i) (get_or s (f + i) 0)
-    → y ≡ laid o a (part s f (i + 1))
-laid_more o s a f i {x} {y} h e g =
-    let b : i < length (drop f s) = rw length-drop (omega arith) in
-    let n : length (part s f i) ≡ i = part_length s f i (omega arith) in
-    rw (add-one i, take-suc (drop f s) i 0 b, get_or-drop f s i 0, ← laid-twice o a (part s f i) (get_or s (f + i) 0 ∷ []), n, ← e)
-    (g ∙ laid_one x (a + i) (get_or s (f + i) 0))
+-- a loop's turn: one byte more of a list
+pub laid_more : (o s : List ℕ) (a i : ℕ) {x y : List ℕ} → i < length s → x ≡ laid o a (take i s) → y ≡ set x (a + i) (get_or s i 0)
+    → y ≡ laid o a (take (i + 1) s)
+laid_more o s a i {x} {y} h e g =
+    let n : length (take i s) ≡ i = rw length-take (omega arith) in
+    rw (add-one i, take-suc s i 0 h, ← laid-twice o a (take i s) (get_or s i 0 ∷ []), n, ← e) (g ∙ laid_one x (a + i) (get_or s i 0))
 
 -- ---- pieces
 
-module _ {o o' o'' : List ℕ} {p p' p'' : Pen} {w v : List ℕ} {a b : Bool} {m n : ℕ} where
+module _ {o o' o'' : List ℕ} {a a' a'' : ℕ} {w v : List ℕ} {m n : ℕ} where
   -- the one piece and then the other
-  pub and_then : Lays m o p w a o' p' → Lays n o' p' v b o'' p'' → Lays (m + n) o p (w ++ v) (a || b) o'' p''
+  pub and_then : Lays m o a w o' a' → Lays n o' a' v o'' a'' → Lays (m + n) o a (w ++ v) o'' a''
   and_then x y =
       record {
-        bytes = y.bytes ∙ rw (x.bytes, x.at) (laid-twice o p.at w v);
-        at = y.at ∙ rw (x.at, length-append w v) (add_assoc p.at (length w) (length v));
-        missing = y.missing ∙ rw x.missing (or_assoc p.missing a b);
+        bytes = y.bytes ∙ rw (x.bytes, x.behind) (laid-twice o a w v);
+        behind = y.behind ∙ rw (x.behind, length-append w v) (add_assoc a (length w) (length v));
         few = rw length-append (omega (arith, x.few, y.few));
       }
 
--- the same piece, its text and its names told in other words, and a wider bound
-pub told : {o o' : List ℕ} {p p' : Pen} {w v : List ℕ} {a b : Bool} {m n : ℕ} → Lays m o p w a o' p' → w ≡ v → a ≡ b → m ≤ n → Lays n o p v b o' p'
-told x e f h =
-    record {
-      bytes = x.bytes ∙ rw e;
-      at = x.at ∙ rw e;
-      missing = x.missing ∙ rw f;
-      few = rw (← e) (omega (arith, x.few));
-    }
-
-module _ {o o' o'' : List ℕ} {p p' p'' : Pen} {w v : List ℕ} {a : Bool} {m n : ℕ} where
-  -- a piece without names comes last
-  pub and_last : Lays m o p w a o' p' → Lays n o' p' v false o'' p'' → Lays (m + n) o p (w ++ v) a o'' p''
-  and_last x y = told (and_then x y) refl (or-false a) (omega arith)
-
--- a piece of n bytes without a name, by its bytes
-pub lays-plain : {o o' w : List ℕ} (p : Pen) {n m : ℕ} → o' ≡ laid o p.at w → n ≡ length w → length w ≤ m
-    → Lays m o p w false o' (record { at = p.at + n; missing = p.missing })
-lays-plain p e f h = record { bytes = e; at = rw f; missing = sym (or-false p.missing); few = h }
+-- the same piece, its text told in other words, and a wider bound
+pub told : {o o' : List ℕ} {a a' : ℕ} {w v : List ℕ} {m n : ℕ} → Lays m o a w o' a' → w ≡ v → m ≤ n → Lays n o a v o' a'
+told x e h = record { bytes = x.bytes ∙ rw e; behind = x.behind ∙ rw e; few = rw (← e) (omega (arith, x.few)) }
 
 -- nothing laid down yet
-pub lays-nothing : (o : List ℕ) (p : Pen) → Lays 0 o p [] false o p
+pub lays-nothing : (o : List ℕ) (a : ℕ) → Lays 0 o a [] o a
 unfolding laid
-lays-nothing o p = record { bytes = refl; at = sym (add-zero p.at); missing = sym (or-false p.missing); few = omega arith }
+lays-nothing o a = record { bytes = refl; behind = sym (add-zero a); few = omega arith }
+
+-- ---- pieces with names
+
+-- laid down, or refused
+pub puts-ok : {m : ℕ} {o o' : List ℕ} {a n : ℕ} {w : List ℕ} {l : Bool} → l ≡ false → Lays m o a w o' n → Puts m o a w l o' (Ok n)
+puts-ok e x = record { was = (e, x) }
+
+pub puts-err : {m : ℕ} {o o' : List ℕ} {a : ℕ} {w : List ℕ} {l : Bool} {e : TextRefusal} → l ≡ true → e ≡ NotListed → Puts m o a w l o' (Err e)
+puts-err f g = record { was = (f, g) }
+
+-- a refusal handed on
+pub refused : {m : ℕ} {o o' : List ℕ} {a : ℕ} {w : List ℕ} {l : Bool} {e : TextRefusal} (r : Result ℕ TextRefusal)
+    → IsErrAnd r (λ t. t ≡ e) → l ≡ true → e ≡ NotListed → Puts m o a w l o' r
+refused r h f g = let p = err_from_is_err_and r h in rw p.1 (puts-err f (p.2 ∙ g))
+
+-- the same told in other words, and with a wider bound
+pub retold : (r : Result ℕ TextRefusal) {o o' : List ℕ} {a : ℕ} {w v : List ℕ} {l k : Bool} {m n : ℕ}
+    → Puts m o a w l o' r → w ≡ v → l ≡ k → m ≤ n → Puts n o a v k o' r
+retold (Ok b) x e f h = puts-ok (sym f ∙ x.was.0) (told x.was.1 e h)
+retold (Err t) x e f h = puts-err (sym f ∙ x.was.0) x.was.1
+
+-- such a piece behind another
+pub then-puts : (r : Result ℕ TextRefusal) {o o' o'' : List ℕ} {a a' : ℕ} {w v : List ℕ} {l : Bool} {m n : ℕ}
+    → Lays m o a w o' a' → Puts n o' a' v l o'' r → Puts (m + n) o a (w ++ v) l o'' r
+then-puts (Ok b) x y = puts-ok y.was.0 (and_then x y.was.1)
+then-puts (Err t) x y = puts-err y.was.0 y.was.1
 
 -- ---- a row of pieces
 
@@ -101,22 +112,32 @@ unfolding flatten
 flatten-snoc [] l = append-nil l
 flatten-snoc (x ∷ ls) l = rw (flatten-snoc ls l) (sym (append_assoc x (flatten ls) l))
 
-module _ (m : ℕ) (f : ℕ → List ℕ) (g : ℕ → Bool) (o : List ℕ) (p : Pen) where
-  -- the first i pieces of a row
-  abbrev pub Row : ℕ → List ℕ → Pen → Type 0
-  Row i o' p' = Lays (m * i) o p (flatten (tab f 0 i)) (any_below i g) o' p'
+module _ (m : ℕ) (f : ℕ → List ℕ) (g : ℕ → Bool) (o : List ℕ) (a : ℕ) where
+  -- the first i pieces of a row, none of which wants a name that is not listed
+  abbrev pub Row : ℕ → List ℕ → ℕ → Type 0
+  Row i o' a' = (any_below i g ≡ false) × Lays (m * i) o a (flatten (tab f 0 i)) o' a'
 
   -- none yet
-  pub row-start : Row 0 o p
+  pub row-start : Row 0 o a
   unfolding flatten tab any_below
-  row-start = told (lays-nothing o p) refl refl (omega arith)
+  row-start = (refl, told (lays-nothing o a) refl (omega arith))
 
   -- one piece more
-  pub row_more : {o' o'' : List ℕ} {p' p'' : Pen} (i : ℕ) → Row i o' p' → Lays m o' p' (f i) (g i) o'' p'' → Row (i + 1) o'' p''
-  row_more i x y =
-      told (and_then x y) (sym (rw (tab-next f i) (flatten-snoc (tab f 0 i) (f i)))) (any-more g i (any_below i g) (g i) refl refl) (omega arith)
+  pub row_more : {o' o'' : List ℕ} {a' a'' : ℕ} (i : ℕ) → Row i o' a' → (g i ≡ false) × Lays m o' a' (f i) o'' a'' → Row (i + 1) o'' a''
+  row_more i x y = (
+    sym (any-more g i (any_below i g) (g i) refl refl) ∙ rw (x.0, y.0),
+    told (and_then x.1 y.1) (sym (rw (tab-next f i) (flatten-snoc (tab f 0 i) (f i)))) (omega arith),
+  )
 
   -- the loop's end
-  pub row_done : {o' : List ℕ} {p' : Pen} (i n most : ℕ) → Row i o' p' → i ≡ n → m * n ≤ most
-      → Lays most o p (flatten (tab f 0 n)) (any_below n g) o' p'
-  row_done i n most x e h = told (rw e at x) refl refl h
+  pub row_done : {o' : List ℕ} {a' : ℕ} (i n most : ℕ) → Row i o' a' → i ≡ n → m * n ≤ most
+      → (any_below n g ≡ false) × Lays most o a (flatten (tab f 0 n)) o' a'
+  row_done i n most x e h = let y = rw e at x in (y.0, told y.1 refl h)
+
+-- a row with a piece that wants one
+pub row-lost : (g : ℕ → Bool) (n i : ℕ) → i < n → g i ≡ true → any_below n g ≡ true
+row-lost g n i h e = go (any_below n g) refl
+  where
+    go : (b : Bool) → any_below n g ≡ b → b ≡ true
+    go true t = refl
+    go false t = sym (any_below-at n i g t h) ∙ e

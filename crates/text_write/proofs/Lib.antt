@@ -1,6 +1,5 @@
+pub mod Ranges
 pub mod Laying
-pub mod Table
-pub mod Naming
 pub mod Texts
 pub mod Faults
 pub mod Accepted

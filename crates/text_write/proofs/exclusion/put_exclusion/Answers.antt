@@ -1,27 +1,34 @@
 use native.Mathlib.Omega.{arith}
-use mathlib.Core.Path.{refl, sym}
+use mathlib.Core.Path.{sym}
+use Rattle.forms.specs.Form.{ascii}
 use Rattle.format.specs.Rule.{exclusion_at}
-use Rattle.text_write.specs.Words.{roles_end, privileges_end}
 use Rattle.text_write.specs.Lost.{exclusion_lost}
 use Rattle.text_write.specs.Pieces.{members_lost}
-use Rattle.text_write.proofs.Texts.{two-words, exclusion-words}
-use Rattle.text_write.proofs.Laying.{and_then, and_last, told}
+use Rattle.text_write.proofs.Texts.{exclusion-words}
+use Rattle.text_write.proofs.Laying.{and_then, told, puts-ok, refused}
 use Rattle.text_write.proofs.exclusion.put_exclusion.Goals as goal
 
-pub put_members-second-requires : goal.put_members-second-requires
-put_members-second-requires c = let o = c.put_opening-first.ensures in record { list_value = (c.requires.list_value.0, omega (arith, o.at, o.few)); n_le_most_members = (omega (arith, c.wide-n.ensures.0, c.requires.b_len.1.1.members), omega arith) }
-
-pub put_word-requires : goal.put_word-requires
-put_word-requires c =
+pub put_members-requires : goal.put_members-requires
+put_members-requires c =
     let o = c.put_opening-first.ensures in
-    let m = c.put_members-second.ensures in
-    (two-words (exclusion_at c.args.b.now c.args.e).kind {a = roles_end} {b = privileges_end} c.by_kind.ensures (omega arith) (omega arith), omega (arith, o.at, o.few, m.at, m.few, c.requires.list_value.1))
+    record { list_value = (c.requires.list_value.0, omega (arith, o.behind, o.few)); n_le_most_members = (omega (arith, c.requires.e_lt.1.members), omega arith) }
+
+pub returns-in_err-second : goal.returns-in_err-second
+unfolding exclusion_lost members_lost
+returns-in_err-second c =
+    let x = rw c.from-n.ensures at c.in_err-second.ensures.was in
+    refused c.from_residual.result c.from_residual.ensures.1 x.0 x.1
+
+pub put-requires : goal.put-requires
+put-requires c =
+    let x = and_then c.put_opening-first.ensures c.in_ok-second.ensures.was.1 in
+    omega (arith, x.behind, x.few)
 
 pub returns : goal.returns
-unfolding exclusion_lost members_lost
+unfolding exclusion_lost members_lost ascii
 returns c =
     let a = c.args in
-    told
-    (and_last (and_then c.put_opening-first.ensures (rw c.wide-n.ensures.0 at c.put_members-second.ensures))
-    (rw c.by_kind.ensures at c.put_word.ensures))
-    (sym (exclusion-words a.list.now (exclusion_at a.b.now a.e))) refl (omega arith)
+    let x = rw c.from-n.ensures at c.in_ok-second.ensures.was in
+    puts-ok x.0
+    (told (and_then (and_then c.put_opening-first.ensures x.1) c.put.ensures)
+    (rw c.by_kind.ensures.0 (sym (exclusion-words a.list.now (exclusion_at a.b.now a.e)))) (omega arith))

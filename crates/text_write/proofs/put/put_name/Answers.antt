@@ -1,19 +1,36 @@
 use native.Mathlib.Omega.{arith}
-use mathlib.Core.Path.{sym, ap, subst, ◌∙◌}
-use Rattle.names.specs.Parts.{entry_of, EntryIn}
-use Rattle.text_write.proofs.Naming.{name-missing, name-there}
+use mathlib.Core.Path.{◌≡◌, refl, sym}
+use mathlib.Core.Option.{none, some}
+use Rattle.xml.specs.Names.{name_of}
+use Rattle.xml.specs.Write.{or_blank}
+use Rattle.names.specs.Code.{name_code}
+use Rattle.names.proofs.LookUps.{name-found, named-text}
+use Rattle.names.proofs.GoodTexts.{GoodText}
+use Rattle.text_write.specs.Lost.{no_name}
+use Rattle.text_write.proofs.Laying.{told, puts-ok, puts-err}
+use Rattle.text_write.proofs.put.put_name.Goals.{In-Some}
 use Rattle.text_write.proofs.put.put_name.Goals as goal
 
-pub put_entry-requires : goal.put_entry-requires
-put_entry-requires c =
-    (c.requires.0, (subst (EntryIn c.args.list.now) c.in-At.is c.name_of.ensures.1, omega arith))
+-- a listed name has at most 60 bytes
+good : (c : In-Some) → GoodText c.in-Some.name.now
+good c =
+    let l = c.args.list.now in
+    let k = name_code c.args.kind in
+    let w = c.in-Some.name.now in
+    named-text l c.requires.0 k c.args.number w (name-found l k c.args.number w (sym c.in-Some.ensures))
 
-pub returns-in-Missing : goal.returns-in-Missing
-returns-in-Missing c =
-    let a = c.args in
-    name-missing a.output.now a.pen (sym c.name_of.ensures.0 ∙ ap (entry_of a.list.now) c.in-Missing.is)
+pub put-requires : goal.put-requires
+put-requires c = let g = good (goal.at.put-requires c).In-Some in omega (arith, g.length_to)
 
-pub returns-in-At : goal.returns-in-At
-returns-in-At c =
-    let a = c.args in
-    name-there (sym c.name_of.ensures.0 ∙ ap (entry_of a.list.now) c.in-At.is) c.put_entry.ensures
+pub returns-in_default : goal.returns-in_default
+unfolding no_name
+returns-in_default c =
+    let e : name_of c.args.list.now (name_code c.args.kind) c.args.number ≡ none = sym c.in_default.ensures in
+    puts-err (rw e) refl
+
+pub returns : goal.returns
+unfolding or_blank no_name
+returns c =
+    let g = good (goal.at.returns c).In-Some in
+    let e : name_of c.args.list.now (name_code c.args.kind) c.args.number ≡ some c.in-Some.name.now = sym c.in-Some.ensures in
+    rw e (puts-ok refl (told c.put.ensures refl g.length_to))

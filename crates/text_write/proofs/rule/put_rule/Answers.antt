@@ -1,23 +1,57 @@
 use native.Mathlib.Omega.{arith}
-use mathlib.Core.Path.{refl}
+use Rattle.forms.specs.Form.{ascii}
 use Rattle.format.specs.Rule.{rule_at}
 use Rattle.text_write.specs.Lost.{rule_lost}
 use Rattle.text_write.proofs.Texts.{rule-words}
-use Rattle.text_write.proofs.Laying.{and_then, and_last, told}
+use Rattle.text_write.proofs.Laying.{and_then, told, puts-ok, refused}
 use Rattle.text_write.proofs.rule.put_rule.Goals as goal
 
-pub put_exclusions-fifth-requires : goal.put_exclusions-fifth-requires
-put_exclusions-fifth-requires c = let x = and_then (and_last (and_then c.put_word-first.ensures c.put_context-second.ensures) c.put_word-third.ensures) c.put_steps-fourth.ensures in record { list_value = (c.requires.list_value.0, omega (arith, x.at, x.few, c.requires.list_value.1)); writable = c.requires.writable }
+pub returns-in_err-second : goal.returns-in_err-second
+unfolding rule_lost
+returns-in_err-second c =
+    let x = c.in_err-second.ensures.was in
+    refused c.from_residual.result c.from_residual.ensures.1 (rw x.0) x.1
 
-pub put_word-requires : goal.put_word-requires
-put_word-requires c =
-    let x = and_then (and_last (and_then c.put_word-first.ensures c.put_context-second.ensures) c.put_word-third.ensures) c.put_steps-fourth.ensures in
-    let y = and_then x c.put_exclusions-fifth.ensures in
-    (omega arith, omega (arith, y.at, y.few, c.requires.list_value.1))
+pub put-third-requires : goal.put-third-requires
+put-third-requires c =
+    let x = and_then c.put-first.ensures c.in_ok-second.ensures.was.1 in
+    omega (arith, x.behind, x.few)
+
+pub put_steps-requires : goal.put_steps-requires
+put_steps-requires c =
+    let x = and_then (and_then c.put-first.ensures c.in_ok-second.ensures.was.1) c.put-third.ensures in
+    (c.requires.list_value.0, omega (arith, x.behind, x.few))
+
+pub returns-in_err-fourth : goal.returns-in_err-fourth
+unfolding rule_lost
+returns-in_err-fourth c =
+    let x = c.in_err-fourth.ensures.was in
+    refused c.from_residual-in_err-fourth.result c.from_residual-in_err-fourth.ensures.1 (rw (c.in_ok-second.ensures.was.0, x.0)) x.1
+
+pub put_exclusions-requires : goal.put_exclusions-requires
+put_exclusions-requires c =
+    let x = and_then (and_then (and_then c.put-first.ensures c.in_ok-second.ensures.was.1) c.put-third.ensures) c.in_ok-fourth.ensures.was.1 in
+    record { list_value = (c.requires.list_value.0, omega (arith, x.behind, x.few)); writable = c.requires.writable }
+
+pub returns-in_err-fifth : goal.returns-in_err-fifth
+unfolding rule_lost
+returns-in_err-fifth c =
+    let x = c.in_err-fifth.ensures.was in
+    refused c.from_residual-in_err-fifth.result c.from_residual-in_err-fifth.ensures.1
+    (rw (c.in_ok-second.ensures.was.0, c.in_ok-fourth.ensures.was.0, x.0)) x.1
+
+pub put-requires : goal.put-requires
+put-requires c =
+    let x = and_then (and_then (and_then c.put-first.ensures c.in_ok-second.ensures.was.1) c.put-third.ensures) c.in_ok-fourth.ensures.was.1 in
+    let y = and_then x c.in_ok-fifth.ensures.was.1 in
+    omega (arith, y.behind, y.few)
 
 pub returns : goal.returns
-unfolding rule_lost
+unfolding rule_lost ascii
 returns c =
     let a = c.args in
-    let x = and_then (and_last (and_then c.put_word-first.ensures c.put_context-second.ensures) c.put_word-third.ensures) c.put_steps-fourth.ensures in
-    told (and_last (and_then x c.put_exclusions-fifth.ensures) c.put_word.ensures) (rule-words a.list.now (rule_at a.b.now)) refl (omega arith)
+    let second = c.in_ok-second.ensures.was in
+    let fourth = c.in_ok-fourth.ensures.was in
+    let fifth = c.in_ok-fifth.ensures.was in
+    let x = and_then (and_then (and_then c.put-first.ensures second.1) c.put-third.ensures) fourth.1 in
+    puts-ok (rw (second.0, fourth.0, fifth.0)) (told (and_then (and_then x fifth.1) c.put.ensures) (rule-words a.list.now (rule_at a.b.now)) (omega arith))

@@ -1,8 +1,24 @@
+use native.Mathlib.Omega.{arith}
+use mathlib.Core.Path.{refl}
+use Rattle.forms.specs.Form.{ascii}
 use Rattle.format.specs.Rule.{rule_at}
-use Rattle.text_write.proofs.Laying.{and_then}
+use Rattle.text_write.proofs.Laying.{retold, then-puts, refused}
 use Rattle.text_write.proofs.rule.put_steps.Goals as goal
 
+pub returns-in_err-first : goal.returns-in_err-first
+unfolding rule_at ascii
+returns-in_err-first c =
+    let x = c.in_err-first.ensures.was in
+    refused c.from_residual.result c.from_residual.ensures.1 (rw x.0) x.1
+
+pub put_step-requires-2 : goal.put_step-requires-2
+put_step-requires-2 c =
+    let x = c.in_ok-first.ensures.was.1 in
+    record { list_value = (c.requires.0, omega (arith, x.behind, x.few)); start = (omega arith, omega arith, omega arith) }
+
 pub returns : goal.returns
-unfolding rule_at
+unfolding rule_at ascii
 returns c =
-    and_then c.put_step-first.ensures c.put_step.ensures
+    let x = c.in_ok-first.ensures.was in
+    let y = then-puts c.put_step-2.result x.1 c.put_step-2.ensures in
+    retold c.put_step-2.result y refl (rw x.0) (omega arith)

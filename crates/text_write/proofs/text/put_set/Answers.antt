@@ -1,19 +1,22 @@
 use native.Mathlib.Omega.{arith}
+use Rattle.forms.specs.Form.{ascii}
+use Rattle.std.proofs.lemmas.Result.{err_from_is_err_and}
 use Rattle.text_write.proofs.Laying.{and_then}
-use Rattle.text_write.proofs.Whole.{plain, ran-refused, ran-whole, set-whole}
+use Rattle.text_write.proofs.Whole.{set-whole}
 use Rattle.text_write.proofs.text.put_set.Goals as goal
 
-pub returns-in_default : goal.returns-in_default
-returns-in_default c =
-    ran-refused _ _ _ _ _ _ _ _ _ _ _ _ c.in_default.is c.put_rules-inner.ensures
+pub returns-in_err-second : goal.returns-in_err-second
+returns-in_err-second c =
+    let p = err_from_is_err_and c.from_residual.result c.from_residual.ensures.1 in
+    rw (p.1, p.2) c.in_err-second.ensures
 
-pub put_word-last-requires : goal.put_word-last-requires
-put_word-last-requires c =
-    let r = ran-whole _ _ _ _ _ _ _ c.in-Length.is c.put_rules-inner.ensures in
-    let x = and_then (plain c.put_word-first.ensures) r.1 in
-    (omega arith, omega (arith, x.at, x.few))
+pub put-requires : goal.put-requires
+put-requires c =
+    let x = and_then c.put-first.ensures c.in_ok-second.ensures.1 in
+    omega (arith, x.behind, x.few)
 
 pub returns : goal.returns
+unfolding ascii
 returns c =
-    let r = ran-whole _ _ _ _ _ _ _ c.in-Length.is c.put_rules-inner.ensures in
-    (r.0, set-whole _ _ (plain c.put_word-first.ensures) r.1 (plain c.put_word-last.ensures))
+    let x = c.in_ok-second.ensures in
+    (x.0, set-whole _ _ c.put-first.ensures x.1 c.put.ensures (omega arith))
