@@ -65,6 +65,7 @@ pub fn find<'a>(
     let mut open = RuleSet(0);
     let mut near = BlockSet::none();
     let mut count = 0usize;
+    // By index: the byte and the block of a record follow from it.
     for k in 0..n {
         let at = record_start(k);
         let shared = shared_at(each, fitting, q, table, at);

@@ -31,6 +31,7 @@ impl Tally {
         ensures { TallyOf (exclusion_at b.now e) [] result }
     {
         let mut members = [Counted::NONE; MOST_MEMBERS];
+        // By index: the byte at which a member stands follows from it.
         for k in 0..MOST_MEMBERS {
             let at = MEMBERS_AT + EXCLUSION_BYTES * e + MEMBER_BYTES * k;
             members[k] = Counted {
