@@ -1,6 +1,7 @@
 -- The records that are left of those in a table: of none, of one more, and all of them where no rule ends.
 -- Assumes nothing.
-use Prim.Native.Nat.{ℕ, ◌+◌, ◌-◌, ◌≤◌}
+use Prim.Native.Nat.{ℕ, zero, suc, ◌+◌, ◌-◌, ◌≤◌}
+use native.Mathlib.Nat.{add-zero}
 use native.Mathlib.Omega.{arith}
 use mathlib.Core.Path.{◌≡◌, refl, sym, ap, ap₂, ◌∙◌}
 use mathlib.Core.Bool.{Bool, true, false, cond, not}
@@ -8,7 +9,8 @@ use mathlib.Core.List.{List, [], ◌∷◌, ◌++◌, map, append-nil}
 use lib.Bits.{and_zero_r, bit_and}
 use lib.ListN.{length, length-append}
 use lib.Dec.{eqb}
-use borrow.Author.Tests.{eq-eqb, ne_eqb}
+use borrow.Author.Tests.{eq-eqb, ne_eqb, eqb-true, eqb-false}
+use Rattle.std.specs.List.{filter, range_with_len}
 use Rattle.words.specs.Lists.{tab, keep}
 use Rattle.word_laws.proofs.Keep.{keep_append, map-append}
 use Rattle.word_laws.proofs.Lists.{length-tab, tab-next}
@@ -105,15 +107,29 @@ module _ (e : Each) (q : Request) (ends : ℕ) where
   )
 
   -- one record more of a table: it goes, or it stays
-  pub left-count-none : (s : List ℕ) (i : ℕ) → (cleared_by e q ends (record_here s i)).marks ≡ 0
+  left-count-none : (s : List ℕ) (i : ℕ) → (cleared_by e q ends (record_here s i)).marks ≡ 0
       → length (left_by e q ends (records_here s (i + 1))) ≡ length (left_by e q ends (records_here s i))
   left-count-none s i z =
       ap length (rest_more left-by-one s i ∙ ap (λ (l : List Record). left_by e q ends (records_here s i) ++ l) (left-none (record_here s i) z))
       ∙ ap length (append-nil (left_by e q ends (records_here s i)))
 
-  pub left-count-one : (s : List ℕ) (i : ℕ) → ((cleared_by e q ends (record_here s i)).marks ≡ 0 → ⊥)
+  left-count-one : (s : List ℕ) (i : ℕ) → ((cleared_by e q ends (record_here s i)).marks ≡ 0 → ⊥)
       → length (left_by e q ends (records_here s (i + 1))) ≡ length (left_by e q ends (records_here s i)) + 1
   left-count-one s i z =
       ap length (rest_more left-by-one s i)
       ∙ length-append (left_by e q ends (records_here s i)) (left_by e q ends (record_here s i ∷ []))
       ∙ ap (λ (l : List Record). length (left_by e q ends (records_here s i)) + length l) (left_one (record_here s i) z)
+
+  -- so many of a run of records stay
+  pub left-run :
+      (s : List ℕ) (from d : ℕ) → length (left_by e q ends (records_here s (from + d)))
+      ≡ length (left_by e q ends (records_here s from)) + length (filter (λ i. not (eqb (cleared_by e q ends (record_here s i)).marks 0)) (range_with_len from d))
+  left-run s from zero = rw (add-zero from) (sym (add-zero (length (left_by e q ends (records_here s from)))))
+  left-run s from (suc d) =
+      let f : from + suc d ≡ from + 1 + d = omega arith in
+      rw f (left-run s (from + 1) d ∙ go (eqb (cleared_by e q ends (record_here s from)).marks 0) refl (filter (λ i. not (eqb (cleared_by e q ends (record_here s i)).marks 0)) (range_with_len (from + 1) d)))
+    where
+      go : (b : Bool) → eqb (cleared_by e q ends (record_here s from)).marks 0 ≡ b → (xs : List ℕ)
+          → length (left_by e q ends (records_here s (from + 1))) + length xs ≡ length (left_by e q ends (records_here s from)) + length (cond (not b) (from ∷ xs) xs)
+      go true is xs = omega (arith, left-count-none s from (eqb-true _ 0 is))
+      go false is xs = omega (arith, left-count-one s from (eqb-false _ 0 is))

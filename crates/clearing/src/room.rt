@@ -20,14 +20,9 @@ fn kept_between(
     requires { (from ≤ to) × (HasRoom table.now to) }
     ensures { length (left_of ending q.now (records_here table.now to)) ≡ length (left_of ending q.now (records_here table.now from)) + result }
 {
-    let mut count = 0usize;
-    for i in from..to {
-        if cleared_marks(ending, q, table, record_start(i)).is_empty() {
-            continue;
-        }
-        count += 1;
-    }
-    count
+    (from..to)
+        .filter(|i| !cleared_marks(ending, q, table, record_start(*i)).is_empty())
+        .count()
 }
 
 // How many of the n records keep a mark. Where no rule ends all of them do; else they are counted block by block, and one by one where one may lose some.

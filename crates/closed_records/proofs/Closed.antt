@@ -1,8 +1,6 @@
 -- The records that a closing leaves, record by record; and a level of a context and of a request, compared as words.
 -- Assumes nothing.
 use Prim.Native.Nat.{ℕ, ◌+◌, ◌*◌, ◌<◌, ◌≤◌}
-use native.Mathlib.Decide.{dec_lt}
-use native.Mathlib.Omega.{arith}
 use mathlib.Core.Path.{◌≡◌, refl, sym, ap, ap₂, ◌∙◌}
 use mathlib.Core.Bool.{Bool, true, false, cond, not, ◌&&◌}
 use mathlib.Core.List.{List, [], ◌∷◌}
@@ -17,11 +15,9 @@ use Rattle.format.specs.Layout.{most_levels, request_bytes}
 use Rattle.format.specs.Request.{context_of, used_level, depth_of}
 use Rattle.format.specs.Context.{same_level, begins}
 use Rattle.format.specs.Table.{Record}
-use Rattle.format.specs.Records.{record_here}
 use Rattle.judge.specs.Close.{closed, closed_out}
 use Rattle.request_check.proofs.RequestWords.{halves-same, low, high, type-word, value-word}
-use Rattle.fields.specs.declared.blocks.BlockSet.{BlockSet}
-use Rattle.clearing.specs.Settling.{OneByOne, Settling, StayIn}
+use Rattle.clearing.specs.Settling.{OneByOne}
 
 -- ---- what is left
 

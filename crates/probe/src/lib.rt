@@ -13,12 +13,18 @@ use engine::deciding::decide_counted;
 pub extern "C" fn sod_probe_decide(policy: &[u8], table: &mut [u8], request: &[u8]) -> usize
     ensures { (table.new ≡ (decide_of policy.now table.old request.now).state) × (result ≡ decided_blocks policy.now table.old request.now) }
 {
-    decide_counted(policy, table, request).map_or(0, |counted| counted.written)
+    match decide_counted(policy, table, request) {
+        Ok(counted) => counted.written,
+        Err(_) => 0,
+    }
 }
 
 #[unsafe(no_mangle)]
 pub extern "C" fn sod_probe_close(policy: &[u8], table: &mut [u8], context: &[u8]) -> usize
     ensures { (table.new ≡ (close_of policy.now table.old context.now).state) × (result ≡ closed_blocks policy.now table.old context.now) }
 {
-    close_counted(policy, table, context).map_or(0, |counted| counted.written)
+    match close_counted(policy, table, context) {
+        Ok(counted) => counted.written,
+        Err(_) => 0,
+    }
 }

@@ -25,15 +25,9 @@ module _ (p : Policy) where
       go (yes b) = made i b
       go (no b) = let s : i ≡ k = omega arith in rw s next
 
-  pub shapes-start : (out : List Shape) → Shapes p 0 out
-  shapes-start out = record { shape = λ i h. absurd (omega arith); narrow = λ i h. absurd (omega arith) }
-
   pub shapes_more : (out : List Shape) (k : ℕ) (x : Shape) → Shapes p k out → k < length out → x ≡ shape_of (p.rule k) → Narrow (p.rule k) → Shapes p (k + 1) (set out k x)
   shapes_more out k x made inside e next =
       record { shape = put-more no_shape (λ i. shape_of (p.rule i)) out k x made.shape inside e; narrow = narrow-more k made.narrow next }
-
-  pub bounds-start : (out : List Bound) → Bounds p 0 out
-  bounds-start out = record { bound = λ i h. absurd (omega arith); narrow = λ i h. absurd (omega arith) }
 
   pub bounds_more : (out : List Bound) (k : ℕ) (x : Bound) → Bounds p k out → k < length out → x ≡ bound_of (p.rule k) → Narrow (p.rule k) → Bounds p (k + 1) (set out k x)
   bounds_more out k x made inside e next =

@@ -7,6 +7,7 @@ use Rattle.rule_tests.specs.Bounds.{Bounds}
 use Rattle.rule_tests.specs.declared.tests.By.{By}
 use Rattle.rule_tests.specs.declared.tests.By.TheVariants.{Shapes as ByShapes, Bounds as ByBounds}
 
+-- the arrays are made of the rules of a policy: shapes, which cannot say a range, only if no rule has one
 abbrev pub Made : Policy → ℕ → By → Type 0
 Made p rules (ByShapes shapes) = Shapes p rules shapes.now × ((i : ℕ) → i < rules → plain (p.rule i) ≡ true)
 Made p rules (ByBounds bounds) = Bounds p rules bounds.now

@@ -5,12 +5,12 @@ use Rattle.std.proofs.lemmas.List.Sums.{sum_by-cons}
 use Rattle.std.specs.List.{sum_by, range_with_len}
 use mathlib.Core.List.{flatten}
 use Rattle.words.specs.Lists.{tab}
-use Rattle.words.specs.Bytes.{u16_at}
 use Rattle.word_laws.proofs.Bytes.{Byte}
+use Rattle.word_laws.proofs.Lists.{length-tab}
+use Rattle.word_laws.proofs.Parts.{u16_at-part}
 use Rattle.format.specs.Block.{block, blocks}
-use Rattle.format.specs.Table.{records_of}
+use Rattle.format.specs.Table.{count, record_at, records_of}
 use Rattle.format_laws.proofs.BlockImage.{records_in}
-use Rattle.table_check.proofs.TableBlock.{records-at}
 
 joined : {A : Type 0} (f : ℕ → List A) (h : ℕ → ℕ) → ((k : ℕ) → h k ≡ length (f k)) → (n k : ℕ) → sum_by h (range_with_len k n) ≡ length (flatten (tab f k n))
 unfolding flatten tab
@@ -26,11 +26,13 @@ bounded h small (suc n) k = omega (arith, sum_by-cons h k (range_with_len (k + 1
 
 module _ (s : List ℕ) where
   abbrev pub counts : ℕ
-  counts = sum_by (λ k. u16_at s (512 * k + 8)) (range_with_len 0 (blocks s))
+  counts = sum_by (λ k. count (block s k)) (range_with_len 0 (blocks s))
 
   pub counts-are : counts ≡ length (records_of s)
   unfolding records_of
-  counts-are = joined (λ k. records_in (block s k)) (λ k. u16_at s (512 * k + 8)) (λ k. sym (records-at s k)) (blocks s) 0
+  counts-are = joined (λ k. records_in (block s k)) (λ k. count (block s k)) (λ k. sym (length-tab (record_at (block s k)) 0 (count (block s k)))) (blocks s) 0
 
   pub counts-few : ((j : ℕ) → Byte (get_or s j 0)) → counts ≤ 65535 * blocks s
-  counts-few bytes = bounded (λ k. u16_at s (512 * k + 8)) (λ k. omega (arith, bytes (512 * k + 8), bytes (512 * k + 8 + 1))) (blocks s) 0
+  counts-few bytes =
+      bounded (λ k. count (block s k))
+      (λ k. rw (u16_at-part s (512 * k) 512 8 (omega arith)) (omega (arith, bytes (512 * k + 8), bytes (512 * k + 8 + 1)))) (blocks s) 0

@@ -24,15 +24,22 @@ use rule_tests::shapes::{Shape, shapes_of};
 use rule_tests::tests::{By, Tests};
 use sums::sum::Sum;
 
+// How many records a block says that it has.
+fn count(b: &[u8; BLOCK_BYTES]) -> usize
+    ensures { result ≡ count b.now }
+{
+    u16_at(b, COUNT_AT) as usize
+}
+
 // Kind, number, total and count of block k of n. Records may stand in it only if no block before it is short of one.
 fn good_heading(b: &[u8; BLOCK_BYTES], k: u32, n: u32, short: bool) -> bool
     ensures { result ≡ good_table_heading short k n b.now }
 {
-    let count = u16_at(b, COUNT_AT);
+    let count = count(b);
     (u32_at(b, KIND_AT) == TABLE_KIND)
         & (u16_at(b, NUMBER_AT) == k)
         & (u16_at(b, TOTAL_AT) == n)
-        & (count as usize <= Blocks::RECORDS)
+        & (count <= Blocks::RECORDS)
         & !((count != 0) & short)
 }
 
@@ -43,7 +50,7 @@ fn good_header(b: &[u8; BLOCK_BYTES], k: u32, n: u32, short: bool) -> bool
     if !good_heading(b, k, n, short) {
         return false;
     }
-    let count = u16_at(b, COUNT_AT) as usize;
+    let count = count(b);
     zero_from(b, SPARE_AT, SPARE_BYTES)
         & zero_from(
             b,
@@ -64,17 +71,22 @@ fn records_fault(tests: &Tests<'_>, b: &[u8; BLOCK_BYTES], k: u32) -> Result<(),
     requires { count b.now ≤ block_records }
     ensures { fault_of result ≡ records_fault (policy_of tests.now.policy.image.now) k b.now }
 {
-    let n = u16_at(b, COUNT_AT);
-    for i in 0..n {
-        if !good_record(tests, b, RECORDS_AT + RECORD_BYTES * (i as usize)) {
-            return Err(Refusal::Record(k, i + 1));
+    for i in 0..count(b) {
+        if !good_record(tests, b, RECORDS_AT + RECORD_BYTES * i) {
+            return Err(Refusal::Record(k, i as u32 + 1));
         }
     }
     Ok(())
 }
 
 // The first fault of block k of n.
-fn block_fault(tests: &Tests<'_>, b: &[u8; BLOCK_BYTES], k: u32, n: u32, short: bool) -> Result<(), Refusal>
+fn block_fault(
+    tests: &Tests<'_>,
+    b: &[u8; BLOCK_BYTES],
+    k: u32,
+    n: u32,
+    short: bool,
+) -> Result<(), Refusal>
     ensures { fault_of result ≡ table_fault_in (policy_of tests.now.policy.image.now) (stamp tests.now.policy.image.now) short k n b.now }
 {
     if !good_check(b) {
@@ -99,7 +111,7 @@ fn blocks_fault(tests: &Tests<'_>, table: &[u8]) -> Result<(), Refusal>
     for k in 0..n {
         let b = block(table, k);
         block_fault(tests, b, k as u32, n as u32, short)?;
-        short = short | ((u16_at(b, COUNT_AT) as usize) < Blocks::RECORDS);
+        short = short | (count(b) < Blocks::RECORDS);
     }
     Ok(())
 }
@@ -143,6 +155,6 @@ pub fn record_count(table: &[u8]) -> usize
     ensures { result ≡ length (records_of table.now) }
 {
     (0..table.len() / BLOCK_BYTES)
-        .map(|k| u16_at(table, BLOCK_BYTES * k + COUNT_AT) as usize)
+        .map(|k| count(block(table, k)))
         .sum()
 }

@@ -117,7 +117,7 @@ fn with_grown(changed: BlockSet, fewer: usize, more: usize) -> BlockSet
     requires { (fewer < more) × (more ≤ capacity table_blocks) }
     ensures { (k : ℕ) → has_block result k ≡ (not (eqb (count_in fewer k) (count_in more k)) || has_block changed k) }
 {
-    let end = (more + Blocks::RECORDS - 1) / Blocks::RECORDS;
+    let end = more.div_ceil(Blocks::RECORDS);
     changed.with_range(fewer / Blocks::RECORDS, end)
 }
 

@@ -98,14 +98,7 @@ fn records_in(n: usize, k: usize) -> usize
     requires { k < table_blocks }
     ensures { result ≡ count_in n k }
 {
-    let first = Blocks::RECORDS * k;
-    if n <= first {
-        return 0;
-    }
-    if n - first < Blocks::RECORDS {
-        return n - first;
-    }
-    Blocks::RECORDS
+    Blocks::RECORDS.min(n.saturating_sub(Blocks::RECORDS * k))
 }
 
 // Writes the blocks of a set around the n records that stand in a table that is an image everywhere else, and says how many it wrote.

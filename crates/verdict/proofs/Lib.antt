@@ -1,5 +1,4 @@
-pub mod Left
-pub mod Room
+pub mod Chains
 pub mod AcceptedEntries
 pub mod Permissions
 pub mod Nested

@@ -1,7 +1,6 @@
 -- Step 1: a policy permits a request where an entry of one of its blocks grants it.
 -- Assumes nothing.
 use Prim.Native.Nat.{ℕ, ◌+◌, ◌-◌, ◌*◌}
-use native.Mathlib.Nat.{sub-zero}
 use native.Mathlib.Omega.{arith}
 use mathlib.Core.Path.{◌≡◌, refl, ap, ◌∙◌}
 use mathlib.Core.Bool.{Bool, true, false, ◌&&◌}
@@ -39,16 +38,16 @@ module _ (b : List ℕ) (q : Request) where
   unfolding entries_of any_of
   no-entries h = rw (ne_eqb (kind b) permission_kind h)
 
-  pub entries-start : kind b ≡ permission_kind → (n : ℕ) → n ≡ entries b → any_of (grants q) (tab (permission_at b) 0 (n - 0)) ≡ any_of (grants q) (entries_of b)
+  pub its-entries : kind b ≡ permission_kind → (n : ℕ) → n ≡ entries b → any_of (grants q) (tab (permission_at b) 0 n) ≡ any_of (grants q) (entries_of b)
   unfolding entries_of
-  entries-start h n e = rw (sub-zero n, e, eq-eqb (kind b) permission_kind h)
+  its-entries h n e = rw (e, eq-eqb (kind b) permission_kind h)
 
 -- the entries of a policy are those of its blocks
 module _ (s : List ℕ) (q : Request) where
-  pub blocks_start : (n : ℕ) → n ≡ blocks s → any_of (grants q) (flatten (tab (permissions_at s) 0 (n - 0))) ≡ permitted (policy_of s) q
+  pub all-entries : any_of (grants q) (flatten (tab (permissions_at s) 0 (blocks s))) ≡ permitted (policy_of s) q
   unfolding permitted policy_of
-  blocks_start n e = rw (sub-zero n, e)
+  all-entries = refl
 
-  pub block-entries : (k : ℕ) (b : List ℕ) (x y : Bool) → b ≡ block s k → x ≡ any_of (grants q) (entries_of b) → x ≡ y → any_of (grants q) (permissions_at s k) ≡ y
+  pub block-entries : (k : ℕ) (b : List ℕ) (x : Bool) → b ≡ block s k → x ≡ any_of (grants q) (entries_of b) → x ≡ any_of (grants q) (permissions_at s k)
   unfolding permissions_at entries_of
-  block-entries k b x y e f g = rw (← e, ← f) g
+  block-entries k b x e f = rw e at f

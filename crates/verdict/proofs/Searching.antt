@@ -1,32 +1,24 @@
 -- Step 3: the search through the rules that judge and their exclusions.
 -- Assumes nothing.
-use Prim.Native.Nat.{ℕ, ◌+◌, ◌-◌, ◌*◌, ◌^◌, ◌≤◌, ◌<◌}
-use native.Mathlib.Decide.{dec_lt}
+use Prim.Native.Nat.{ℕ, ◌+◌, ◌-◌, ◌≤◌, ◌<◌}
 use native.Mathlib.Omega.{arith}
-use mathlib.Core.Path.{◌≡◌, sym, ap, ◌∙◌, subst, subst⁻¹}
-use mathlib.Core.Bool.{Bool, true, false, cond, not, false≢true}
+use mathlib.Core.Path.{◌≡◌, refl, sym, ◌∙◌}
+use mathlib.Core.Bool.{Bool, true, false, not}
 use mathlib.Core.List.{List, [], ◌∷◌, ◌++◌}
 use mathlib.Core.Option.{Option, none, some}
-use lib.ListN.{length}
-use lib.Dec.{eqb, ltb}
-use borrow.Author.Tests.{lt-ltb, ltb-true}
 use Rattle.words.specs.First.{unless, first}
 use Rattle.words.specs.Bytes.{byte_at, bit}
-use Rattle.word_laws.proofs.Parts.{byte_at-part}
 use Rattle.word_laws.proofs.First.{first_more, first-none}
-use Rattle.word_laws.proofs.Bits.{bit-beyond}
-use Rattle.word_laws.proofs.BitLaws.{bits_of}
 use Rattle.format.specs.Answer.{Refusal, refusal}
-use Rattle.format.specs.Layout.{block_bytes, most_rules, most_exclusions, exclusions_at}
+use Rattle.format.specs.Layout.{most_rules, exclusions_at}
 use Rattle.format.specs.Block.{block}
 use Rattle.format.specs.Request.{Request}
 use Rattle.format.specs.Rule.{exclusion_at}
+use Rattle.format.specs.Policy.{rule_count}
 use Rattle.judge.specs.Tally.{reached, exclusion_number}
 use Rattle.matching.specs.declared.masks.Each.{Each}
 use Rattle.history.specs.Code.{past_by}
-use Rattle.verdict.specs.Code.{fails_in, rule_fails, failing_of, FoundAt}
-use Rattle.verdict.specs.declared.search.Failing.{Failing}
-use Rattle.verdict.specs.declared.search.Failing.TheVariants.{At}
+use Rattle.verdict.specs.Code.{JudgingRules, fails_in, rule_fails}
 use Rattle.verdict.proofs.Nested.{left, row-enter}
 
 -- exclusion e of the rule of index i, whose block is b, over these requests
@@ -59,46 +51,23 @@ module _ (policy : List ℕ) (rules : ℕ) (each : Each) (q : Request) (table fo
         → left (rule_fails policy rules each q table found) (fails_at b i (counts each q table found i)) i most_rules 0 n ≡ t
     rule-judges b n e f k = row-enter (rule_fails policy rules each q table found) (fails_at b i (counts each q table found i)) i most_rules n h l (heard b n e f k)
 
--- the rules end where none that judges has an index as high
-module _ (rules i : ℕ) where
-  pub few-rules : rules < 4294967296 → i ≤ most_rules → ltb rules (2 ^ i) ≡ false → i < most_rules
-  few-rules most le more = go (dec_lt i most_rules)
+-- the rules end where no more are the policy's
+module _ (policy : List ℕ) (rules : ℕ) (each : Each) (q : Request) (table found : List ℕ) (judging : JudgingRules policy rules) where
+  pub rules-done : {t : Option Refusal} (i : ℕ) → first (rule_fails policy rules each q table found) i (most_rules - i) ≡ t → rule_count policy ≤ i → none ≡ t
+  rules-done i h past =
+      sym (first-none (rule_fails policy rules each q table found) i (most_rules - i) (λ j lo hi. silent policy rules each q table found j (off (bit j rules) refl (omega arith)))) ∙ h
     where
-      go : Dec (i < most_rules) → i < most_rules
-      go (yes l) = l
-      go (no g) = let e : i ≡ 32 = omega arith in absurd (false≢true (sym more ∙ lt-ltb rules (2 ^ i) (rw e most)))
-
-  pub rules-done : (policy : List ℕ) (each : Each) (q : Request) (table found : List ℕ) {t : Option Refusal}
-      → first (rule_fails policy rules each q table found) i (most_rules - i) ≡ t → ltb rules (2 ^ i) ≡ true → none ≡ t
-  rules-done policy each q table found h none_left =
-      sym (first-none (rule_fails policy rules each q table found) i (most_rules - i) (λ j lo hi. silent policy rules each q table found j (off j lo))) ∙ h
-    where
-      off : (j : ℕ) → i ≤ j → bit j rules ≡ false
-      off j lo = ap (bit j) (bits_of i rules (ltb-true rules (2 ^ i) none_left)) ∙ bit-beyond i (λ k. bit k rules) j lo
+      off : {j : ℕ} (b : Bool) → bit j rules ≡ b → rule_count policy ≤ j → bit j rules ≡ false
+      off true e le = absurd (omega (arith, judging.below _ e))
+      off false e le = e
 
 -- ---- one exclusion
 
 module _ (policy b : List ℕ) (i e : ℕ) (qs : List Request) (x : Bool) (same : x ≡ reached (exclusion_at b e) qs) where
-  pub exclusion-fails :
-      x ≡ true → b ≡ block policy i
-      → fails_at b i qs e ≡ some (refusal (exclusion_number (exclusion_at (block policy i) e)) (i + 1) (e + 1))
+  pub exclusion-fails : x ≡ true → fails_at b i qs e ≡ some (refusal (exclusion_number (exclusion_at b e)) (i + 1) (e + 1))
   unfolding unless
-  exclusion-fails h f = rw (← same, h, f)
+  exclusion-fails h = rw (← same, h)
 
   pub exclusion-passes : x ≡ false → fails_at b i qs e ≡ none
   unfolding unless
   exclusion-passes h = rw (← same, h)
-
--- ---- what was found
-
-module _ (policy : List ℕ) (found : Failing) (i e : ℕ) (at : found ≡ At i e) where
-  pub found_in : FoundAt policy found → (i < most_rules) × (e < most_exclusions) × (block_bytes * i + block_bytes ≤ length policy)
-  found_in h = subst (λ (f : Failing). FoundAt policy f) at h
-
-  pub found-fault :
-      (x : ℕ) → e < most_exclusions → x ≡ cond (eqb (byte_at policy (512 * i + (56 + 36 * e))) 1) 32 33
-      → some (refusal x (i + 1) (e + 1)) ≡ failing_of policy found
-  unfolding exclusion_number
-  found-fault x l h =
-      subst⁻¹ (λ (f : Failing). some (refusal x (i + 1) (e + 1)) ≡ failing_of policy f) at
-      (ap (λ (n : ℕ). some (refusal n (i + 1) (e + 1))) (h ∙ ap (λ (k : ℕ). cond (eqb k 1) 32 33) (sym (byte_at-part policy (512 * i) 512 (56 + 36 * e) (omega arith)))))

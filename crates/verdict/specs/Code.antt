@@ -1,12 +1,13 @@
 -- What the values of the code stand for.
 -- Assumes nothing.
-use Rattle.std.specs.Prelude.{ℕ, ◌+◌, ◌*◌, ◌≤◌, ◌<◌, ◌≡◌, true, cond, not, List, [], ◌∷◌, ◌++◌, length, eqb}
-use Rattle.std.proofs.Math.Option.{Option, none, some}
+use Rattle.std.specs.Prelude.{ℕ, ◌+◌, ◌≤◌, ◌<◌, ◌≡◌, true, cond, not, List, [], ◌∷◌, ◌++◌, eqb, Result, IfOk}
+use Rattle.std.proofs.Math.Option.{Option, none}
 use Rattle.words.specs.Lists.{tab}
 use Rattle.words.specs.First.{unless, first}
 use Rattle.words.specs.Bytes.{byte_at, bit}
 use Rattle.format.specs.Answer.{Refusal, refusal}
-use Rattle.format.specs.Layout.{block_bytes, most_rules, most_exclusions, most_entries, permission_kind, highest_role, exclusions_at}
+use Rattle.format.specs.declared.answer.Refusal.{Refusal as Refused}
+use Rattle.format.specs.Layout.{most_entries, permission_kind, highest_role, exclusions_at}
 use Rattle.format.specs.Block.{block, kind}
 use Rattle.format.specs.Request.{Request}
 use Rattle.format.specs.Rule.{exclusion_at}
@@ -20,8 +21,6 @@ use Rattle.matching.specs.declared.masks.Each.{Each}
 use Rattle.matching.specs.Masks.{NearOf}
 use Rattle.matching.specs.Sets.{EffectIs}
 use Rattle.history.specs.Code.{past_by}
-use Rattle.verdict.specs.declared.search.Failing.{Failing}
-use Rattle.verdict.specs.declared.search.Failing.TheVariants.{Nowhere, At}
 use Rattle.verdict.specs.declared.verdicts.Verdict.{Verdict}
 
 -- ---- step 1
@@ -38,10 +37,6 @@ pub record EntriesFit (b : List ℕ) : Type 0 where
 
 -- ---- step 3
 
--- records for which the code has a small room
-abbrev pub few_records : ℕ
-few_records = 60
-
 -- a set of rules of an accepted policy
 pub record JudgingRules (policy : List ℕ) (rules : ℕ) : Type 0 where
   pub accepted : policy_fault policy ≡ none
@@ -55,19 +50,9 @@ fails_in b i qs = first (λ e. unless (not (reached (exclusion_at b e) qs)) (ref
 unfoldable pub rule_fails : List ℕ → ℕ → Each → Request → List ℕ → List ℕ → ℕ → Option Refusal
 rule_fails policy rules e q table found i = cond (bit i rules) (fails_in (block policy i) i (past_by e q i table found ++ (q ∷ []))) none
 
--- what the search found, as a refusal: "32 for kind 1, 33 for kind 2", with rule and exclusion from 1
-abbrev pub failing_of : List ℕ → Failing → Option Refusal
-failing_of policy Nowhere = none
-failing_of policy (At i e) = some (refusal (exclusion_number (exclusion_at (block policy i) e)) (i + 1) (e + 1))
-
--- it stands in the policy
-abbrev pub FoundAt : List ℕ → Failing → Type 0
-FoundAt policy Nowhere = Unit {0}
-FoundAt policy (At i e) = (i < most_rules) × (e < most_exclusions) × (block_bytes * i + block_bytes ≤ length policy)
-
 -- ---- steps 1 to 3 over the first n records of a table: the verdict; and, where nothing is against the request, what a grant ends and gives, and
 -- blocks outside which no record loses a mark, by the masks e
-pub record VerdictIs (p : Policy) (e : Each) (s : List ℕ) (n : ℕ) (q : Request) (v : Verdict) : Type 0 where
-  pub faults : fault_of v.fault ≡ verdict p q (open_in p (records_here s n) q) (past_in p (records_here s n) q)
-  pub effect_is : fault_of v.fault ≡ none → EffectIs p q (open_in p (records_here s n) q) v.effect
-  pub near-is : fault_of v.fault ≡ none → NearOf e v.effect.ends.0 q s n v.near
+pub record VerdictIs (p : Policy) (e : Each) (s : List ℕ) (n : ℕ) (q : Request) (v : Result Verdict Refused) : Type 0 where
+  pub faults : fault_of v ≡ verdict p q (open_in p (records_here s n) q) (past_in p (records_here s n) q)
+  pub effect_is : IfOk v (λ x. EffectIs p q (open_in p (records_here s n) q) x.effect)
+  pub near-is : IfOk v (λ x. NearOf e x.effect.ends.0 q s n x.near)

@@ -1,4 +1,4 @@
-use Prim.Native.Nat.{◌*◌, ◌≤◌, min}
+use Prim.Native.Nat.{◌*◌, min}
 use mathlib.Core.Path.{◌≡◌}
 use lib.ListN.{length}
 use Rattle.format.specs.Records.{records_here}

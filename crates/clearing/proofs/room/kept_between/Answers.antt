@@ -1,32 +1,25 @@
-use Prim.Native.Nat.{ℕ, ◌+◌}
+use Prim.Native.Nat.{ℕ, ◌+◌, ◌-◌}
 use native.Mathlib.Omega.{arith}
-use mathlib.Core.Path.{◌≡◌, sym, ap, ◌∙◌}
+use mathlib.Core.Path.{◌≡◌, refl, sym, ap, ◌∙◌}
+use mathlib.Core.Bool.{not}
+use lib.Dec.{eqb}
 use lib.ListN.{length}
-use borrow.Author.Tests.{eqb-true, eqb-false}
-use Rattle.format.specs.Records.{record_from, record_here}
-use Rattle.clearing.specs.Cleared.{cleared_by}
-use Rattle.clearing.proofs.Left.{left-count-none, left-count-one}
-use Rattle.clearing.proofs.room.kept_between.Goals.{After-is_empty}
+use Rattle.std.proofs.Common.{rules}
+use Rattle.std.proofs.lemmas.Iterator.{YieldsList-from_range}
+use Rattle.std.proofs.lemmas.Iterator.Consumers.{count_from_yields_List, YieldsList-from_filter}
+use Rattle.format.specs.Records.{record_here, records_here}
+use Rattle.clearing.specs.Cleared.{cleared_by, left_by}
+use Rattle.clearing.proofs.Left.{left-run}
 use Rattle.clearing.proofs.room.kept_between.Goals as goal
 
-marks-are : (c : After-is_empty) → let a = c.args in
-    c.cleared_marks.result.0 ≡ (cleared_by a.ending.each a.q.now a.ending.rules.0 (record_here a.table.now c.loop-i.i)).marks
-marks-are c =
+pub returns : goal.returns
+returns c =
     let a = c.args in
-    c.cleared_marks.ensures
-    ∙ ap (λ at. (cleared_by a.ending.each a.q.now a.ending.rules.0 (record_from a.table.now at)).marks) c.record_start.ensures
-
-pub loop-i-preserved-then-is_empty : goal.loop-i-preserved-then-is_empty
-loop-i-preserved-then-is_empty c =
-    let a = c.args in
-    let none = eqb-true c.cleared_marks.result.0 0 (sym c.is_empty.ensures ∙ c.if-is_empty.true) in
-    let h = left-count-none a.ending.each a.q.now a.ending.rules.0 a.table.now c.loop-i.i (sym (marks-are (goal.at.loop-i-preserved-then-is_empty c).After-is_empty) ∙ none) in
-    (omega arith, omega arith, h ∙ c.loop-i.invariant.2)
-
-pub loop-i-preserved : goal.loop-i-preserved
-loop-i-preserved c =
-    let a = c.args in
-    let l = c.loop-i in
-    let some = eqb-false c.cleared_marks.result.0 0 (sym c.is_empty.ensures ∙ c.if-is_empty.false) in
-    let h = left-count-one a.ending.each a.q.now a.ending.rules.0 a.table.now l.i (λ z. some (marks-are (goal.at.loop-i-preserved c).After-is_empty ∙ z)) in
-    (omega arith, omega arith, omega (arith, h, l.invariant.2))
+    let e = a.ending in
+    let d : a.from + (a.to - a.from) ≡ a.to = omega arith in
+    let run = left-run e.each a.q.now e.rules.0 a.table.now a.from (a.to - a.from) in
+    let counted =
+    count_from_yields_List c.filter.result _ c.count.ensures.ran
+    (YieldsList-from_filter _ (λ i. not (eqb (cleared_by e.each a.q.now e.rules.0 (record_here a.table.now i)).marks 0))
+    (YieldsList-from_range a.from a.to (a.to - a.from) c.filter.ensures.source refl) c.filter.ensures.closure (λ x b q k. search rules)) in
+    rw d at run ∙ ap (λ (n : ℕ). length (left_by e.each a.q.now e.rules.0 (records_here a.table.now a.from)) + n) (sym counted)

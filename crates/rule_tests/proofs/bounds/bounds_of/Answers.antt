@@ -1,11 +1,8 @@
 use Rattle.std.proofs.Common.{arith, length-set, ◌∙◌}
 use Rattle.format.specs.Policy.{policy_of}
 use Rattle.format_laws.proofs.AcceptedPolicy.{rules-most, rule-good}
-use Rattle.rule_tests.proofs.Made.{bounds-start, bounds_more}
+use Rattle.rule_tests.proofs.Made.{bounds_more}
 use Rattle.rule_tests.proofs.bounds.bounds_of.Goals as goal
-
-pub loop-i-init : goal.loop-i-init
-loop-i-init c = (c.told-out, bounds-start _ _)
 
 pub of-requires : goal.of-requires
 of-requires c = let p = c.args.policy.now in rw c.rule.ensures (rule-good p.image.now p.accepted c.loop-i.i (omega (arith, p.rules_are)))

@@ -1,11 +1,8 @@
 use Rattle.std.proofs.Common.{arith, length-set, ◌∙◌}
 use Rattle.format.specs.Policy.{policy_of}
 use Rattle.format_laws.proofs.AcceptedPolicy.{rules-most}
-use Rattle.rule_tests.proofs.Made.{shapes-start, shapes_more}
+use Rattle.rule_tests.proofs.Made.{shapes_more}
 use Rattle.rule_tests.proofs.shapes.shapes_of.Goals as goal
-
-pub loop-i-init : goal.loop-i-init
-loop-i-init c = (c.told-out, shapes-start _ _)
 
 pub bounds-out-i : goal.bounds-out-i
 bounds-out-i c = let p = c.args.policy.now in omega (arith, p.rules_are, rules-most p.image.now p.accepted)

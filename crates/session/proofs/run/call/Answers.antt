@@ -16,4 +16,4 @@ pub returns : goal.returns
 returns c =
     let a = c.args in
     let e = call-of-closing a.policy.now a.table.now a.bytes.now a.kind c.if-kind-eq0.false c.close.ensures in
-    (c.from.ensures ∙ ap (λ (o : Outcome (List ℕ)). four o.answer) e, ap (λ (o : Outcome (List ℕ)). o.state) e)
+    (c.from-2.ensures ∙ ap (λ (o : Outcome (List ℕ)). four o.answer) e, ap (λ (o : Outcome (List ℕ)). o.state) e)

@@ -14,9 +14,9 @@ returns-then-good_request c =
     let p = policy_of a.tests.now.policy.image.now in
     let e = empty (goal.at.returns-then-good_request c).After-is_empty in
     elim c.if-not-is_empty.branch [
-      then-not-is_empty w ↦
-        let good = sym w.good_request.ensures ∙ sym w.value-is ∙ c.if-good_request.true in
-        c.good_marks.ensures good ∙ by-marks p a.s.now a.at (sym e ∙ w.if-not-is_empty.true) good
+      | then-not-is_empty w ↦
+          let good = sym w.good_request.ensures ∙ sym w.value-is ∙ c.if-good_request.true in
+          c.good_marks.ensures good ∙ by-marks p a.s.now a.at (sym e ∙ w.if-not-is_empty.true) good
       | else-not-is_empty w ↦ let no : false ≡ true = ap not (sym w.if-not-is_empty.false) ∙ sym w.value-is ∙ c.if-good_request.true in cc
     ]
 
@@ -26,6 +26,6 @@ returns-else-good_request c =
     let p = policy_of a.tests.now.policy.image.now in
     let e = empty (goal.at.returns-else-good_request c).After-is_empty in
     elim c.if-not-is_empty.branch [
-      then-not-is_empty w ↦ c.if-good_request.false ∙ bad-request p a.s.now a.at (sym w.good_request.ensures ∙ sym w.value-is ∙ c.if-good_request.false)
+      | then-not-is_empty w ↦ c.if-good_request.false ∙ bad-request p a.s.now a.at (sym w.good_request.ensures ∙ sym w.value-is ∙ c.if-good_request.false)
       | else-not-is_empty w ↦ c.if-good_request.false ∙ unmarked p a.s.now a.at (sym e ∙ w.if-not-is_empty.false)
     ]

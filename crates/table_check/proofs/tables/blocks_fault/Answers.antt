@@ -24,7 +24,7 @@ loop-k-preserved c =
     let s = c.args.table.now in
     let l = c.loop-k in
     let fault = (rw (c.block-b.ensures, l.invariant.0) at c.in_ok-block_fault.ensures) ∙ fault-of-block s l.k _ _ in (
-      rw (l.invariant.0, c.u16_at.ensures.0, c.block-b.ensures) (short-more s l.k),
+      rw (l.invariant.0, c.count.ensures, c.block-b.ensures) (short-more s l.k),
       first_more _ l.k (blocks s) l.invariant.1 (omega arith) (sym fault),
     )
 

@@ -9,4 +9,4 @@ use Rattle.table_check.proofs.tables.records_fault.Given as goal
 abbrev pub invariant-loop-i : goal.invariant-loop-i
 invariant-loop-i l =
     let p = policy_of l.tests.policy.image.now in
-    (l.n ≡ count l.b) × (first (record_fault_at p l.k l.b) l.i (l.n - l.i) ≡ records_fault p l.k l.b)
+    first (record_fault_at p l.k l.b) l.i (count l.b - l.i) ≡ records_fault p l.k l.b

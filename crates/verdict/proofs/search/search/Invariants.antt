@@ -1,8 +1,8 @@
-use Prim.Native.Nat.{ℕ, ◌-◌, ◌≤◌}
+use Prim.Native.Nat.{ℕ, ◌-◌}
 use mathlib.Core.Path.{◌≡◌}
 use mathlib.Core.List.{List}
 use mathlib.Core.Option.{Option}
-use lib.ListN.{length}
+use Rattle.std.specs.Prelude.{Ok}
 use Rattle.words.specs.First.{first}
 use Rattle.format.specs.Answer.{Refusal}
 use Rattle.format.specs.Layout.{most_rules}
@@ -11,7 +11,7 @@ use Rattle.verdict.specs.Code.{rule_fails}
 use Rattle.verdict.specs.declared.search.Judging.{Judging}
 use Rattle.verdict.proofs.Nested.{left}
 use Rattle.verdict.proofs.Searching.{fails_at, counts}
-use Rattle.verdict.proofs.search.first_failing.Given as goal
+use Rattle.verdict.proofs.search.search.Given as goal
 
 -- what each rule says to the search, and what the search has to find
 abbrev pub fails : List ℕ → Judging → Request → List ℕ → List ℕ → ℕ → Option Refusal
@@ -21,13 +21,9 @@ abbrev pub whole : List ℕ → Judging → Request → List ℕ → List ℕ �
 whole policy judging q table found = first (fails policy judging q table found) 0 most_rules
 
 abbrev pub invariant-loop-e : goal.invariant-loop-e
-invariant-loop-e l = (l.e ≤ l.n) × (left (fails l.policy l.judging l.q l.table l.found) (fails_at l.b l.i (counts l.judging.each l.q l.table l.found l.i)) l.i most_rules l.e l.n ≡ whole l.policy l.judging l.q l.table l.found)
-
-abbrev pub decreases-loop-e : goal.decreases-loop-e
-decreases-loop-e l = l.n - l.e
+invariant-loop-e l =
+    (l.answer ≡ Ok tt) × (left (fails l.policy.image.now l.judging l.q l.table l.found) (fails_at l.b l.i (counts l.judging.each l.q l.table l.found l.i)) l.i most_rules l.e l.e-end ≡ whole l.policy.image.now l.judging l.q l.table l.found)
 
 abbrev pub invariant-rules : goal.invariant-rules
-invariant-rules l = (l.i ≤ most_rules) × (length l.past ≡ length l.initial.past) × (first (fails l.policy l.judging l.q l.table l.found) l.i (most_rules - l.i) ≡ whole l.policy l.judging l.q l.table l.found)
-
-abbrev pub decreases-rules : goal.decreases-rules
-decreases-rules l = most_rules - l.i
+invariant-rules l =
+    (l.answer ≡ Ok tt) × (first (fails l.policy.image.now l.judging l.q l.table l.found) l.i (most_rules - l.i) ≡ whole l.policy.image.now l.judging l.q l.table l.found)
