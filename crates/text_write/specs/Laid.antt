@@ -20,5 +20,6 @@ abbrev pub PutAs : ℕ → List ℕ → ℕ → List ℕ → Bool → List ℕ �
 PutAs most before at text lost after (Ok next) = (lost ≡ false) × Lays most before at text after next
 PutAs most before at text lost after (Err e) = (lost ≡ true) × (e ≡ NotListed)
 
+-- the same as a record, whose arguments can be told from its type
 pub record Puts (most : ℕ) (before : List ℕ) (at : ℕ) (text : List ℕ) (lost : Bool) (after : List ℕ) (answer : Result ℕ TextRefusal) : Type 0 where
   pub was : PutAs most before at text lost after answer

@@ -1,8 +1,6 @@
 use native.Mathlib.Omega.{arith}
-use mathlib.Core.Path.{◌≡◌, ◌∙◌}
-use Rattle.xml.specs.Tags.{squeezed}
-use Rattle.tags.specs.Cut.{span}
-use Rattle.tags.proofs.Squeezing.{laid-length, squeeze-start, squeeze-more}
+use mathlib.Core.Path.{◌∙◌}
+use Rattle.tags.proofs.Squeezing.{squeeze-start, squeeze-more}
 use Rattle.tags.proofs.cut.squeeze.Goals as goal
 
 pub loop-i-init : goal.loop-i-init
@@ -18,14 +16,3 @@ loop-i-preserved c =
     let step =
     squeeze-more a.text.now a.buffer.now a.from c.loop-i.i (omega arith) (omega arith) c.loop-i.n c.loop-i.buffer inv.3 inv.4 in
     (omega arith, omega arith, omega arith, c.add-n.ensures.0 ∙ step.0, c.add-n.ensures.1 ∙ step.1)
-
-pub shape_of-buffer : goal.shape_of-buffer
-shape_of-buffer c =
-    let a = c.args in
-    rw c.loop-i.invariant.4 (laid-length (squeezed (span a.text.now a.from c.loop-i.i)) a.buffer.now)
-
-pub returns : goal.returns
-returns c =
-    let a = c.args in
-    let e : c.loop-i.i ≡ a.to = omega arith in
-    (rw e at c.loop-i.invariant.3, rw e at c.loop-i.invariant.4)

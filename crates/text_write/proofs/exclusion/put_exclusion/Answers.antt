@@ -8,21 +8,11 @@ use Rattle.text_write.proofs.Texts.{exclusion-words}
 use Rattle.text_write.proofs.Laying.{and_then, told, puts-ok, refused}
 use Rattle.text_write.proofs.exclusion.put_exclusion.Goals as goal
 
-pub put_members-requires : goal.put_members-requires
-put_members-requires c =
-    let o = c.put_opening-first.ensures in
-    record { list_value = (c.requires.list_value.0, omega (arith, o.behind, o.few)); n_le_most_members = (omega (arith, c.requires.e_lt.1.members), omega arith) }
-
 pub returns-in_err-second : goal.returns-in_err-second
 unfolding exclusion_lost members_lost
 returns-in_err-second c =
     let x = rw c.from-n.ensures at c.in_err-second.ensures.was in
     refused c.from_residual.result c.from_residual.ensures.1 x.0 x.1
-
-pub put-requires : goal.put-requires
-put-requires c =
-    let x = and_then c.put_opening-first.ensures c.in_ok-second.ensures.was.1 in
-    omega (arith, x.behind, x.few)
 
 pub returns : goal.returns
 unfolding exclusion_lost members_lost ascii

@@ -7,11 +7,6 @@ use Rattle.text_write.proofs.exclusion.put_members.Goals as goal
 pub loop-i-init : goal.loop-i-init
 loop-i-init c = (omega arith, (refl, row-start most_pair_bytes _ _ _ _))
 
-pub put_member-requires : goal.put_member-requires
-put_member-requires c =
-    let x = c.loop-i.invariant.1.1.1 in
-    (c.requires.list_value.0, omega (arith, x.behind, x.few))
-
 pub returns-in_err-at : goal.returns-in_err-at
 unfolding members_lost
 returns-in_err-at c =
@@ -22,9 +17,6 @@ pub loop-i-preserved : goal.loop-i-preserved
 loop-i-preserved c =
     let l = c.loop-i in
     (omega arith, (c.put_member.auto.output ∙ l.invariant.1.0, row_more most_pair_bytes _ _ _ _ l.i l.invariant.1.1 (rw c.read-p.ensures at c.in_ok-at.ensures.was)))
-
-pub shape_of-output : goal.shape_of-output
-shape_of-output c = c.loop-i.invariant.1.0
 
 pub returns : goal.returns
 unfolding members_text members_lost

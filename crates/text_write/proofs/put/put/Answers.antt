@@ -16,9 +16,6 @@ loop-i-preserved c =
     let a = c.args in
     (omega arith, c.put_byte.auto.output ∙ l.invariant.1, laid_more a.output.now a.s.now a.at l.i (omega arith) l.invariant.2 c.put_byte.ensures)
 
-pub shape_of-output : goal.shape_of-output
-shape_of-output c = c.loop-i.invariant.1
-
 pub returns : goal.returns
 returns c =
     let s = c.args.s.now in

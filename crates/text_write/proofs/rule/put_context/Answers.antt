@@ -13,11 +13,6 @@ use Rattle.text_write.proofs.rule.put_context.Goals as goal
 pub loop-i-init : goal.loop-i-init
 loop-i-init c = (omega arith, (refl, row-start most_level_bytes _ _ _ _))
 
-pub put_level-requires : goal.put_level-requires
-put_level-requires c =
-    let x = c.loop-i.invariant.1.1.1 in
-    (c.requires.list_value.0, omega (arith, x.behind, x.few), omega arith)
-
 pub returns-in_err-at : goal.returns-in_err-at
 unfolding context_lost rule_at
 returns-in_err-at c =
@@ -28,9 +23,6 @@ pub loop-i-preserved : goal.loop-i-preserved
 loop-i-preserved c =
     let l = c.loop-i in
     (omega arith, (c.put_level.auto.output ∙ l.invariant.1.0, row_more most_level_bytes _ _ _ _ l.i l.invariant.1.1 c.in_ok-at.ensures.was))
-
-pub shape_of-output : goal.shape_of-output
-shape_of-output c = c.loop-i.invariant.1.0
 
 pub returns : goal.returns
 unfolding context_text context_lost comma_text rule_at ascii

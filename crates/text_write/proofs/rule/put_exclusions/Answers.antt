@@ -11,12 +11,6 @@ use Rattle.text_write.proofs.rule.put_exclusions.Goals as goal
 pub loop-e-init : goal.loop-e-init
 loop-e-init c = (omega arith, (refl, row-start most_exclusion_bytes _ _ _ _))
 
-pub put_exclusion-requires : goal.put_exclusion-requires
-put_exclusion-requires c =
-    let x = c.loop-e.invariant.1.1.1 in
-    let w = c.requires.writable in
-    record { list_value = (c.requires.list_value.0, omega (arith, x.behind, x.few, w.exclusions)); e_lt = (omega (arith, w.exclusions), w.each c.loop-e.e (omega arith)) }
-
 pub returns-in_err-at : goal.returns-in_err-at
 unfolding exclusions_lost rule_at
 returns-in_err-at c =
@@ -27,9 +21,6 @@ pub loop-e-preserved : goal.loop-e-preserved
 loop-e-preserved c =
     let l = c.loop-e in
     (omega arith, (c.put_exclusion.auto.output ∙ l.invariant.1.0, row_more most_exclusion_bytes _ _ _ _ l.e l.invariant.1.1 c.in_ok-at.ensures.was))
-
-pub shape_of-output : goal.shape_of-output
-shape_of-output c = c.loop-e.invariant.1.0
 
 pub returns : goal.returns
 unfolding exclusions_text exclusions_lost rule_at

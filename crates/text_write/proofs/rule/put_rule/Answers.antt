@@ -12,26 +12,11 @@ returns-in_err-second c =
     let x = c.in_err-second.ensures.was in
     refused c.from_residual.result c.from_residual.ensures.1 (rw x.0) x.1
 
-pub put-third-requires : goal.put-third-requires
-put-third-requires c =
-    let x = and_then c.put-first.ensures c.in_ok-second.ensures.was.1 in
-    omega (arith, x.behind, x.few)
-
-pub put_steps-requires : goal.put_steps-requires
-put_steps-requires c =
-    let x = and_then (and_then c.put-first.ensures c.in_ok-second.ensures.was.1) c.put-third.ensures in
-    (c.requires.list_value.0, omega (arith, x.behind, x.few))
-
 pub returns-in_err-fourth : goal.returns-in_err-fourth
 unfolding rule_lost
 returns-in_err-fourth c =
     let x = c.in_err-fourth.ensures.was in
     refused c.from_residual-in_err-fourth.result c.from_residual-in_err-fourth.ensures.1 (rw (c.in_ok-second.ensures.was.0, x.0)) x.1
-
-pub put_exclusions-requires : goal.put_exclusions-requires
-put_exclusions-requires c =
-    let x = and_then (and_then (and_then c.put-first.ensures c.in_ok-second.ensures.was.1) c.put-third.ensures) c.in_ok-fourth.ensures.was.1 in
-    record { list_value = (c.requires.list_value.0, omega (arith, x.behind, x.few)); writable = c.requires.writable }
 
 pub returns-in_err-fifth : goal.returns-in_err-fifth
 unfolding rule_lost
@@ -39,12 +24,6 @@ returns-in_err-fifth c =
     let x = c.in_err-fifth.ensures.was in
     refused c.from_residual-in_err-fifth.result c.from_residual-in_err-fifth.ensures.1
     (rw (c.in_ok-second.ensures.was.0, c.in_ok-fourth.ensures.was.0, x.0)) x.1
-
-pub put-requires : goal.put-requires
-put-requires c =
-    let x = and_then (and_then (and_then c.put-first.ensures c.in_ok-second.ensures.was.1) c.put-third.ensures) c.in_ok-fourth.ensures.was.1 in
-    let y = and_then x c.in_ok-fifth.ensures.was.1 in
-    omega (arith, y.behind, y.few)
 
 pub returns : goal.returns
 unfolding rule_lost ascii

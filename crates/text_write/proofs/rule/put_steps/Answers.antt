@@ -11,11 +11,6 @@ returns-in_err-first c =
     let x = c.in_err-first.ensures.was in
     refused c.from_residual.result c.from_residual.ensures.1 (rw x.0) x.1
 
-pub put_step-requires-2 : goal.put_step-requires-2
-put_step-requires-2 c =
-    let x = c.in_ok-first.ensures.was.1 in
-    record { list_value = (c.requires.0, omega (arith, x.behind, x.few)); start = (omega arith, omega arith, omega arith) }
-
 pub returns : goal.returns
 unfolding rule_at ascii
 returns c =

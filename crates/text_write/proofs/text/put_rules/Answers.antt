@@ -49,9 +49,6 @@ loop-k-preserved c =
     turn_more _ _ _ _ _ c.loop-k.k c.loop-k.invariant (omega arith) (rw e at c.in_ok-at.ensures.was)
     (sym (rw e at c.has_range.ensures) ∙ c.if-has_range.false) c.put_rule.auto.output
 
-pub shape_of-output : goal.shape_of-output
-shape_of-output c = c.loop-k.invariant.size
-
 pub returns : goal.returns
 returns c =
     let p = c.args.policy.now in
