@@ -1,28 +1,48 @@
--- How far a text goes in one manner, counted: no count passes the end, and one more byte that fits is still within it.
+-- How far a text goes in one manner, as the library counts it; no count passes the end, and one more byte that fits is still within it.
 -- Assumes nothing.
 use Prim.Native.Nat.{ℕ, suc, ◌+◌, ◌-◌, ◌≤◌, ◌<◌}
 use native.Mathlib.Omega.{arith}
-use mathlib.Core.Path.{◌≡◌, refl, ap, ◌∙◌}
+use mathlib.Core.Path.{◌≡◌, refl, ap}
 use mathlib.Core.Bool.{cond}
 use mathlib.Core.List.{List, [], ◌∷◌}
-use lib.Dec.{eqb}
+use borrow.Author.Tests.{ltb-false}
+use lib.Dec.{eqb, ltb}
 use lib.ListN.{length, take, drop, get_or, length-drop}
 use lib.Seq.{get_or-drop}
 use Rattle.std.proofs.Common.{take_all}
-use Rattle.std.specs.Prelude.{zip, Ok}
-use Rattle.std.specs.List.{prefix_len}
+use Rattle.std.specs.Prelude.{Bool, true, false, not, Option, Some, None, unwrap_or, zip, Ok}
+use Rattle.std.specs.List.{prefix_len, position_or_len}
 use Rattle.forms.specs.Form.{Kind, is_of}
 use Rattle.forms.specs.Run.{run, common}
 use Rattle.forms.proofs.Runs.{run_fits, common-fits-text, common-stops}
 use Rattle.reader.specs.Scan.{run_end, RunsOn}
 
+-- a slice up to the end is all that is left
+pub behind_all : (t : List ℕ) (a : ℕ) → take (length t - a) (drop a t) ≡ drop a t
+behind_all t a = take_all (length t - a) (drop a t) (let m = length-drop a t in omega arith)
+
 -- ---- bytes of a kind
 
--- counted by the library
-pub run-prefix : (q : Kind) (t : List ℕ) → prefix_len (is_of q) t ≡ run q t
+-- the place of the first that is of another, or the length
+abbrev place : Kind → List ℕ → ℕ
+place q t = position_or_len (λ b. not (is_of q b)) t
+
+place-run : (q : Kind) (t : List ℕ) → place q t ≡ run q t
 unfolding run
-run-prefix q [] = refl
-run-prefix q (b ∷ t) = let e : 1 + prefix_len (is_of q) t ≡ suc (run q t) = omega (arith, run-prefix q t) in ap (λ n. cond (is_of q b) n 0) e
+place-run q [] = refl
+place-run q (b ∷ t) = go (is_of q b) (place-run q t)
+  where
+    go : (x : Bool) → place q t ≡ run q t → cond (not (not x)) (1 + place q t) 0 ≡ cond x (suc (run q t)) 0
+    go true h = omega (arith, h)
+    go false h = refl
+
+-- as the library finds it
+pub run-found : (q : Kind) (t : List ℕ) (r : Option ℕ) → r ≡ cond (ltb (place q t) (length t)) (Some (place q t)) None → unwrap_or r (length t) ≡ run q t
+run-found q t r e = rw e (go (ltb (place q t) (length t)) refl)
+  where
+    go : (x : Bool) → ltb (place q t) (length t) ≡ x → unwrap_or (cond x (Some (place q t)) None) (length t) ≡ run q t
+    go true d = place-run q t
+    go false d = let l = ltb-false _ _ d in let m = run_fits q t in omega (arith, place-run q t)
 
 pub end_fits : (q : Kind) (t : List ℕ) (a : ℕ) → a ≤ length t → run_end q t a ≤ length t
 end_fits q t a fit = let l = run_fits q (drop a t) in let m = length-drop a t in omega arith
@@ -48,8 +68,3 @@ pub common-more : (w t : List ℕ) (a i : ℕ) → i ≤ common w (drop a t) →
 common-more w t a i l h g e =
     let other : i ≡ common w (drop a t) → ⊥ = λ d. common-stops w (drop a t) (rw (← d) h) (rw (← d, length-drop a t) g) (rw (← d, get_or-drop a t i 0) e) in
     omega arith
-
--- ---- what the library counts in
-
-pub behind_all : (t : List ℕ) (a : ℕ) {u : List ℕ} → u ≡ take (length t - a) (drop a t) → u ≡ drop a t
-behind_all t a e = e ∙ take_all (length t - a) (drop a t) (let m = length-drop a t in omega arith)

@@ -5,7 +5,7 @@ ghost use Rattle.reader.specs.Read.{ReadsTag};
 use crate::misfit::Misfit;
 use crate::reading::{Tag, tag_at};
 
-#[derive(Clone, Copy)]
+#[derive(Drop)]
 pub struct Reader<'a> {
     pub text: &'a [u8],
     pub at: usize,

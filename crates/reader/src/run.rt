@@ -6,12 +6,15 @@ ghost use Rattle.reader.specs.Scan.{run_end, RunsOn};
 use crate::misfit::Misfit;
 use forms::kind::{ByteKind, is_of};
 
-// Where the bytes of the kind end that stand at a place.
+// Where the bytes of the kind end that stand at a place. Timed in the engine, this is faster than a loop, and than `take_while` with `count`.
 pub fn run_end(text: &[u8], at: usize, kind: ByteKind) -> usize
     requires { at ≤ length text.now }
     ensures { result ≡ run_end (kind_of kind) text.now at }
 {
-    at + text[at..].iter().take_while(|b| is_of(kind, **b)).count()
+    match text[at..].iter().position(|b| !is_of(kind, *b)) {
+        Some(n) => at + n,
+        None => text.len(),
+    }
 }
 
 // The same, where one must stand there.

@@ -7,7 +7,7 @@ pub const ELEMENTS: usize = 12;
 // The state behind the set, in which no tag may stand.
 pub const BEHIND: usize = 7;
 
-// The next state where a tag may not stand.
+// The next state where a tag may not stand: a number and no Option, as the table of specs/ has it.
 pub const NONE: usize = 8;
 
 // The next states, as digits.
@@ -27,5 +27,5 @@ pub fn next_state(s: usize, c: usize) -> usize
     ensures { result ≡ next s c }
 {
     let digit = NEXT[ELEMENTS * s + c];
-    (digit - b'0') as usize
+    usize::from(digit - b'0')
 }

@@ -5,7 +5,7 @@ use Rattle.xml.specs.Grammar.{◌▸◌, text, gap}
 use Rattle.reader.proofs.Computed.{computed}
 use Rattle.reader.proofs.Counts.{end_fits}
 use Rattle.reader.proofs.Scans.{given_on}
-use Rattle.reader.proofs.Contexts.{context-none, context-start, context-level-stopped, context-level, context-closes, context-comma-stopped, context-again}
+use Rattle.reader.proofs.Contexts.{context-none, context-start, context-level, context-closes, context-comma-stopped, context-again}
 use Rattle.reader.proofs.Contexts.{leads-fit, leads-past}
 use Rattle.reader.proofs.Pieces.{scans-fit, scans-past}
 use Rattle.reader.proofs.context.context.Goals as goal
@@ -15,9 +15,6 @@ returns-then-starts c = context-none (sym c.starts.ensures ∙ c.if-starts.true)
 
 pub loop-end-init : goal.loop-end-init
 loop-end-init c = (omega arith, (c.requires, context-start c.requires (sym c.starts.ensures ∙ c.if-starts.false)))
-
-pub returns-in_err-end : goal.returns-in_err-end
-returns-in_err-end c = rw (given_on c.from_residual.ensures.1) (context-level-stopped c.loop-end.invariant.1.1 c.in_err-end.ensures)
 
 pub returns-then-starts-2 : goal.returns-then-starts-2
 returns-then-starts-2 c = let l = c.loop-end in

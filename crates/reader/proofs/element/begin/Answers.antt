@@ -5,19 +5,12 @@ use lib.ListN.{length, drop, length-drop}
 use Rattle.words.specs.Lists.{all_below}
 use Rattle.reader.specs.Table.{elements}
 use Rattle.reader.specs.Begin.{longest}
-use Rattle.reader.proofs.Beginnings.{none_more, longest-more, share-fits, longest-fits, begins-tag, begins-none}
+use Rattle.reader.proofs.Beginnings.{none_more, longest-more, longest-fits, begins-tag, begins-none}
 use Rattle.reader.proofs.element.begin.Goals as goal
 
 pub loop-c-init : goal.loop-c-init
 unfolding longest all_below
 loop-c-init c = (omega arith, (refl, refl))
-
-pub overflow_add-result : goal.overflow_add-result
-overflow_add-result c = let a = c.args in
-    let e = c.share-n.ensures in
-    let l = share-fits a.s (drop a.at a.text.now) c.loop-c.c in
-    let long = length-drop a.at a.text.now in
-    omega arith
 
 pub returns-then-n-word : goal.returns-then-n-word
 returns-then-n-word c = let a = c.args in

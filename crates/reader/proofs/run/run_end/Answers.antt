@@ -1,23 +1,30 @@
 use Prim.Native.Nat.{◌+◌}
-use mathlib.Core.Path.{ap, ◌∙◌}
-use lib.ListN.{drop}
+use mathlib.Core.Bool.{not}
+use native.Mathlib.Omega.{arith}
+use mathlib.Core.Path.{◌≡◌, ap, ◌∙◌}
+use lib.ListN.{length, drop, length-drop}
+use Rattle.std.specs.Prelude.{unwrap_or}
 use Rattle.std.proofs.Common.{rules, tests}
 use Rattle.std.proofs.lemmas.Iterator.{YieldsList-from_slice}
-use Rattle.std.proofs.lemmas.Iterator.Consumers.{count_from_yields_List}
-use Rattle.std.proofs.lemmas.Iterator.Search.{YieldsList-from_take_while}
-use Rattle.std.proofs.lemmas.List.Folds.{length-prefix_len}
+use Rattle.std.proofs.lemmas.Iterator.Search.{position_from_yields_List}
 use Rattle.forms.specs.Form.{is_of}
 use Rattle.forms.specs.Code.{kind_of}
-use Rattle.reader.proofs.Counts.{run-prefix, behind_all}
+use Rattle.forms.specs.Run.{run}
+use Rattle.reader.proofs.Counts.{run-found, behind_all}
+use Rattle.reader.proofs.run.run_end.Goals.{After-position}
 use Rattle.reader.proofs.run.run_end.Goals as goal
 
-pub returns : goal.returns
-returns c =
-    let a = c.args in
-    let q = kind_of a.kind in
-    let u = drop a.at a.text.now in
-    ap (λ n. a.at + n)
-    (count_from_yields_List c.take_while.result _ c.count.ensures.ran
-    (YieldsList-from_take_while _ (is_of q) (YieldsList-from_slice _ (behind_all c.args.text.now c.args.at (ap (λ s. s.rest.now) c.take_while.ensures.source ∙ c.iter.ensures.rest)))
-    c.take_while.ensures.closure c.take_while.ensures.done (λ x b r k. search (rules, tests)))
-    ∙ length-prefix_len (is_of q) u ∙ run-prefix q u)
+-- what the call of `position` says
+found : (c : After-position) → let u = drop c.args.at c.args.text.now in unwrap_or c.position.result (length u) ≡ run (kind_of c.args.kind) u
+found c =
+    let q = kind_of c.args.kind in
+    let u = drop c.args.at c.args.text.now in
+    run-found q u c.position.result
+    (position_from_yields_List (λ b. not (is_of q b)) _ _ c.position.result c.position.ensures.ran
+    (YieldsList-from_slice u (c.iter.ensures.rest ∙ behind_all c.args.text.now c.args.at)) (λ x b r k. search (rules, tests)))
+
+pub returns-in-Some : goal.returns-in-Some
+returns-in-Some c = ap (λ n. c.args.at + n) (rw c.in-Some.is at (found (goal.at.returns-in-Some c).After-position))
+
+pub returns-in-None : goal.returns-in-None
+returns-in-None c = omega (arith, rw c.in-None.is at (found (goal.at.returns-in-None c).After-position), length-drop c.args.at c.args.text.now)

@@ -18,7 +18,7 @@ returns c =
     count_from_yields_List c.take_while.result _ c.count.ensures.ran
     (YieldsList-from_take_while _ same
     (YieldsList-from_zip
-    (YieldsList-from_slice _ (behind_all c.args.text.now c.args.at (ap (λ s. s.a.rest.now) c.take_while.ensures.source ∙ ap (λ s. s.rest.now) c.zip.ensures.first ∙ c.iter.ensures.rest)))
+    (YieldsList-from_slice _ (ap (λ s. s.a.rest.now) c.take_while.ensures.source ∙ ap (λ s. s.rest.now) c.zip.ensures.first ∙ c.iter.ensures.rest ∙ behind_all c.args.text.now c.args.at))
     (YieldsList-from_slice _ (ap (λ s. s.b.rest.now) c.take_while.ensures.source ∙ c.zip.ensures.second.0 ∙ c.word.ensures)))
     c.take_while.ensures.closure c.take_while.ensures.done (λ x b r k. search (rules, tests)))
     ∙ length-prefix_len same (zip u (word c.args.w)) ∙ common-prefix (word c.args.w) u
