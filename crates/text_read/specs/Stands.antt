@@ -26,7 +26,7 @@ abbrev pub Kept : List Rule → List ℕ → Type 0
 Kept rules image = (k : ℕ) → k < length rules → k < most_rules → block image k ≡ get_or (map rule_block rules) k []
 
 -- the exclusion and the rule that are being read, in their blocks; where the rule's context stands; how many rules have ended, up to one too many; and the
--- first 32 of them
+-- first 32 of them, in their image
 pub record Stands (t : List ℕ) (s : Reading) (sheet : Sheet) : Type 0 where
   pub exclusion : sheet.exclusion ≡ exclusion_block s.exclusion
   pub members : MembersFit s.exclusion
@@ -44,6 +44,7 @@ pub record Turned (t l second : List ℕ) (room : ℕ) (s : Reading) (tag : Tag)
   pub fault : text_fault_of r ≡ tag_fault l second room s tag
   pub now : OnOk r (Stands t (after_tag l s tag) sheet)
 
+-- the same by what is read from
 abbrev pub TurnedBy : Source → List ℕ → Reading → Tag → Sheet → Result (Unit {0}) TextRefusal → Type 0
 TurnedBy source second s tag sheet r = Turned source.text.now source.list.now second source.room s tag sheet r
 

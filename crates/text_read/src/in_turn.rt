@@ -39,12 +39,13 @@ impl Sheet {
         }
     }
 
-    // All tags that end before a byte, up to the first with a fault.
+    // All tags that end before a byte, up to the first with a fault. A loop over places: `split` gives pieces alone, and what a tag says is told by where its
+    // values stand.
     pub fn read_tags(&mut self, source: &Source<'_>, end: usize) -> Result<(), TextRefusal>
         requires { (end ≤ length source.now.text.now) × Stands source.now.text.now nothing_read self.old }
         ensures { (second : List ℕ) → source.now.permissions ≡ blocks second - rule_count second → ReadIs source.now.list.now second source.now.room (map tag_of (tags_in (take end source.now.text.now))) self.new result }
     {
-        let mut at: usize = 0;
+        let mut at = 0;
         while at < end {
             let close = until(source.text, at, end, b'>');
             if close == end {

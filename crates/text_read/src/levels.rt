@@ -69,7 +69,8 @@ impl Source<'_> {
         Ok(())
     }
 
-    // Puts the levels of a context, as far as there is room, and counts them. An empty context has none.
+    // Puts the levels of a context, as far as there is room, and counts them. An empty context has none. A loop over places: `split` gives pieces alone, and
+    // a level is told by where it stands.
     pub fn read_levels(
         &self,
         context: Span,
@@ -80,7 +81,7 @@ impl Source<'_> {
         ensures depth { IfOk result (λ depth. depth ≡ length (level_texts (value_at self.now.text.now context))) }
         ensures levels { OnOk result ((dr : Draft) → d.old ≡ draft_block [] dr → d.new ≡ draft_block (map (level_of self.now.list.now) (level_texts (value_at self.now.text.now context))) dr) }
     {
-        let mut depth: usize = 0;
+        let mut depth = 0;
         if blank(self.text, context) {
             return Ok(depth);
         }
@@ -88,7 +89,7 @@ impl Source<'_> {
         while at <= context.to {
             let end = until(self.text, at, context.to, b',');
             self.read_level(Span { from: at, to: end }, d, depth)?;
-            depth = depth + 1;
+            depth += 1;
             at = end + 1;
         }
         Ok(depth)

@@ -1,11 +1,7 @@
 use native.Mathlib.Omega.{arith}
-use lib.ListN.{length-set}
 use Rattle.xml.specs.Blocks.{privilege_image}
 use Rattle.drafts.proofs.ExclusionBlock.{member-stored, member-counted}
 use Rattle.drafts.proofs.exclusion.add_member.Goals as goal
-
-pub put_pair-requires : goal.put_pair-requires
-put_pair-requires c = simp length-set (omega arith)
 
 pub returns-then-n : goal.returns-then-n
 unfolding privilege_image

@@ -1,7 +1,7 @@
 use Prim.Native.Nat.{◌<◌}
 use native.Mathlib.Omega.{arith}
 use Rattle.std.proofs.lemmas.Result.{err_from_is_err_and}
-use Rattle.text_read.proofs.TurnsText.{text-start, context-in, text-ends, text-stops, text-refused, text-more}
+use Rattle.text_read.proofs.TurnsText.{context-in, text-ends, text-stops, text-refused, text-more}
 use Rattle.text_read.proofs.sheet.Sheet.read_tags.Goals.{Else-close-end}
 use Rattle.text_read.proofs.sheet.Sheet.read_tags.Goals as goal
 
@@ -12,18 +12,9 @@ more c =
     let most = c.until-close.ensures.2 in
     omega arith
 
-pub loop-at-init : goal.loop-at-init
-loop-at-init c = text-start c.requires.1
-
-pub until-close-requires : goal.until-close-requires
-until-close-requires c = (c.loop-at.invariant.within, c.requires.0)
-
 pub returns-then-close-end : goal.returns-then-close-end
 returns-then-close-end c =
     let u = c.until-close in text-stops c.loop-at.invariant c.requires.0 u.result u.ensures.0 (omega (arith, c.if-close-end.true))
-
-pub tag_of-tag-requires : goal.tag_of-tag-requires
-tag_of-tag-requires c = (c.until-close.ensures.1, omega (arith, c.until-close.ensures.2, c.requires.0))
 
 pub take_tag-requires : goal.take_tag-requires
 take_tag-requires c = (c.tag_of-tag.ensures.1, context-in c.loop-at.invariant)
@@ -36,12 +27,6 @@ returns-in_err-take_tag c =
     rw (p.1, p.2)
     (text-refused c.loop-at.invariant c.requires.0 u.result u.ensures.0 (more (goal.at.returns-in_err-take_tag c).Else-close-end) c.tag_of-tag.ensures.0 _
     c.in_err-take_tag.ensures second q)
-
-pub overflow_add-at : goal.overflow_add-at
-overflow_add-at c = omega (arith, more (goal.at.overflow_add-at c).Else-close-end)
-
-pub loop-at-smaller : goal.loop-at-smaller
-loop-at-smaller c = omega (arith, more (goal.at.loop-at-smaller c).Else-close-end, c.until-close.ensures.1)
 
 pub loop-at-preserved : goal.loop-at-preserved
 loop-at-preserved c =
