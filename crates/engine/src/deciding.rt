@@ -20,7 +20,14 @@ pub fn decide_counted(
     ensures { (outcome (granted_of (counted_of result)) table.new ≡ decide_of policy.now table.old request.now) × (written_of result ≡ decided_blocks policy.now table.old request.now) }
 {
     let pass = examine(policy, table, request)?;
-    update(pass.stamp, pass.ending, pass.gives, pass.request, table, pass.held)
+    update(
+        pass.stamp,
+        pass.ending,
+        pass.gives,
+        pass.request,
+        table,
+        pass.held,
+    )
 }
 
 // Decides one request. A grant brings the lent table up to date, a refusal leaves every byte.

@@ -8,8 +8,8 @@ ghost use Rattle.matching.specs.Levels.{fits_below};
 
 use fields::field::{u16_at, u32_at};
 use fields::layout::{
-    BLOCK_BYTES, CONTEXT_AT, CONTEXT_LEVEL_BYTES, DEPTH_AT, FIXED, LEVEL_BYTES, LEVEL_MARK_AT, LEVEL_TAIL_AT,
-    LEVEL_TYPE_AT, LEVEL_VALUE_AT, RANGE,
+    BLOCK_BYTES, CONTEXT_AT, CONTEXT_LEVEL_BYTES, DEPTH_AT, FIXED, LEVEL_BYTES, LEVEL_MARK_AT,
+    LEVEL_TAIL_AT, LEVEL_TYPE_AT, LEVEL_VALUE_AT, RANGE,
 };
 use request_check::request::depth;
 

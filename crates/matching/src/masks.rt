@@ -103,7 +103,13 @@ pub fn apart(each: Each, q: &[u8; REQUEST_BYTES], s: &[u8], at: usize) -> RuleSe
 
 // What `together` gives, for a set of rules that is asked of many records: levels behind the first are looked at only if one of the rules tells run
 // places apart there.
-pub fn together_of(each: Each, rules: RuleSet, q: &[u8; REQUEST_BYTES], s: &[u8], at: usize) -> RuleSet
+pub fn together_of(
+    each: Each,
+    rules: RuleSet,
+    q: &[u8; REQUEST_BYTES],
+    s: &[u8],
+    at: usize,
+) -> RuleSet
     requires { at + request_bytes ≤ length s.now }
     ensures { result.0 ≡ together_by each rules.0 q.now (part s.now at request_bytes) }
 {

@@ -7,8 +7,8 @@ ghost use Rattle.policy_check.specs.Parts.{entries_fault};
 
 use fields::field::{u16_at, zero_from};
 use fields::layout::{
-    BLOCK_BYTES, COUNT_AT, ENTRIES_BYTES, ENTRY_BYTES, ENTRY_PAD_AT, ENTRY_PRIVILEGE_AT, ENTRY_ROLE_AT,
-    HIGHEST_ROLE, MOST_ENTRIES, SPARE_AT, SPARE_BYTES,
+    BLOCK_BYTES, COUNT_AT, ENTRIES_BYTES, ENTRY_BYTES, ENTRY_PAD_AT, ENTRY_PRIVILEGE_AT,
+    ENTRY_ROLE_AT, HIGHEST_ROLE, MOST_ENTRIES, SPARE_AT, SPARE_BYTES,
 };
 use fields::number::Role;
 use fields::privilege;

@@ -87,11 +87,7 @@ fn print_number<W: Write>(out: &mut W, n: u32) -> io::Result<()>
 }
 
 // A line: the ordinal, then `grant` with its three numbers or `refuse` with its number and two places.
-fn print_line<W: Write>(
-    out: &mut W,
-    ordinal: u64,
-    answer: Result<Grant, Refusal>,
-) -> io::Result<()>
+fn print_line<W: Write>(out: &mut W, ordinal: u64, answer: Result<Grant, Refusal>) -> io::Result<()>
     ensures { OnOk result (Appends (W.contents out.old) (W.contents out.new) (line ordinal (granted_of answer))) }
 {
     write!(out, "{ordinal}")?;

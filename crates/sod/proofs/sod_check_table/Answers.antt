@@ -3,4 +3,4 @@ use Rattle.answers.specs.Numbers.{four}
 use Rattle.sod.proofs.sod_check_table.Goals as goal
 
 pub returns : goal.returns
-returns c = c.reply_of.ensures ∙ ap four c.check_table.ensures
+returns c = c.from.ensures ∙ ap four c.check_table.ensures

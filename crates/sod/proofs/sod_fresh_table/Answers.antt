@@ -2,4 +2,4 @@ use Rattle.sod.proofs.Left.{left_is}
 use Rattle.sod.proofs.sod_fresh_table.Goals as goal
 
 pub returns : goal.returns
-returns c = left_is _ _ _ _ c.reply_of.ensures c.make_table.ensures
+returns c = left_is _ _ _ _ c.from.ensures c.make_table.ensures

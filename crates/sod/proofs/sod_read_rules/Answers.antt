@@ -2,4 +2,4 @@ use Rattle.sod.proofs.Left.{converted_is}
 use Rattle.sod.proofs.sod_read_rules.Goals as goal
 
 pub returns : goal.returns
-returns c = converted_is _ _ _ _ c.converted_of.ensures c.read_rules.ensures
+returns c = converted_is _ _ _ _ c.from.ensures c.read_rules.ensures

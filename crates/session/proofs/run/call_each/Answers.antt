@@ -25,8 +25,8 @@ loop-i-preserved c =
       search rules,
       search rules,
       running_more _ _ _ _ _ asked.0 l.i l.at _ _ _ _ _ o.answer l.invariant.4 (omega arith) (omega arith) (omega arith) (omega (arith, c.end_of-end.ensures))
-      (ap (λ (s : List ℕ). outcome o.answer s) c.call-answer.ensures.1)
-      (c.put_answer.ensures ∙ ap (λ (f : Four). sets l.answers (4 * l.i) (f.number ∷ f.first ∷ f.second ∷ f.third ∷ [])) c.call-answer.ensures.0),
+          (ap (λ (s : List ℕ). outcome o.answer s) c.call-answer.ensures.1)
+          (c.put_answer.ensures ∙ ap (λ (f : Four). sets l.answers (4 * l.i) (f.number ∷ f.first ∷ f.second ∷ f.third ∷ [])) c.call-answer.ensures.0),
     )
 
 pub returns : goal.returns
