@@ -1,22 +1,20 @@
 -- What the two calls come to, by the first row that applies: the policy's, the list's, or what lies behind them.
 -- Assumes nothing.
-use mathlib.Core.Path.{◌≡◌, refl, ◌∙◌}
+use mathlib.Core.Path.{◌≡◌, ◌∙◌}
 use Prim.Native.Nat.{ℕ}
 use mathlib.Core.Bool.{true, false}
 use mathlib.Core.List.{List}
 use mathlib.Core.Option.{none, some}
 use lib.ListN.{length}
-use Rattle.std.specs.Prelude.{Result, Ok, Err}
 use Rattle.words.specs.First.{◌or_else◌, unless}
 use Rattle.word_laws.proofs.First.{unless-passes}
 use Rattle.format.specs.Answer.{refuse, Refusal, refusal, Outcome, refusing}
 use Rattle.format.specs.Policy.{policy_fault, policy_of}
-use Rattle.format.specs.declared.answer.TextRefusal.{TextRefusal}
 use Rattle.xml.specs.Names.{good_names, names_fault}
 use Rattle.xml_calls.specs.Calls.{resulting, read_fault, read_image, read_rules, write_fault, write_rules}
-use Rattle.text_write.specs.Wrote.{answer_of, writing}
+use Rattle.text_write.specs.Wrote.{writing}
 use Rattle.text_write.proofs.Whole.{writing-is}
-use Rattle.answers.specs.Code.{converted_of, outcome}
+use Rattle.answers.specs.Code.{outcome}
 
 -- a good list passes its row
 names-pass : (l : List ℕ) → good_names l ≡ true → names_fault l ≡ none
@@ -48,10 +46,5 @@ module _ (policy l output : List ℕ) where
   write-names p e = rw (p, e)
 
   pub write-is :
-      (r : Result ℕ TextRefusal) (s : List ℕ) → policy_fault policy ≡ none → good_names l ≡ true
-      → outcome (answer_of r) s ≡ writing l (policy_of policy) output → outcome (converted_of r) s ≡ write_rules policy l output
-  write-is r s p e h = same r ∙ h ∙ writing-is policy l output p (names-pass l e)
-    where
-      same : (x : Result ℕ TextRefusal) → outcome (converted_of x) s ≡ outcome (answer_of x) s
-      same (Ok n) = refl
-      same (Err f) = refl
+      {o : Outcome (List ℕ)} → policy_fault policy ≡ none → good_names l ≡ true → o ≡ writing l (policy_of policy) output → o ≡ write_rules policy l output
+  write-is p e h = h ∙ writing-is policy l output p (names-pass l e)

@@ -21,7 +21,8 @@ use Rattle.format.specs.Code.{text_refusal_of}
 use Rattle.format.specs.declared.answer.TextRefusal.{TextRefusal}
 use Rattle.text_write.specs.Laid.{Lays}
 use Rattle.text_write.specs.Pieces.{most_rules_bytes, most_text_bytes}
-use Rattle.text_write.specs.Wrote.{answer_of, inner_text, rules_fault, Ran, writing}
+use Rattle.answers.specs.Code.{converted_of, outcome}
+use Rattle.text_write.specs.Wrote.{inner_text, rules_fault, Ran, writing}
 use Rattle.text_write.proofs.Laying.{laid-whole, and_then, told}
 
 -- ---- one run
@@ -55,7 +56,7 @@ module _ (l : List ℕ) (p : Policy) (out : List ℕ) where
 
     -- there is room, and the second run lays the text down
     pub write-whole : n ≤ length out → (r : Result ℕ TextRefusal) (q : List ℕ) → Ran m (rules_fault l p) out 0 (rules_text l p) q r
-        → record { answer = answer_of r; state = q } ≡ writing l p out
+        → outcome (converted_of r) q ≡ writing l p out
     unfolding writing refusing ◌or_else◌ unless resulting
     write-whole h (Err t) q y = let never : ◌≡◌ {A = Option Refusal} (some (text_refusal_of t)) none = sym y ∙ x.0 in cc
     write-whole h (Ok k) q y =

@@ -5,7 +5,7 @@ use mathlib.Core.List.{List, flatten}
 use Rattle.std.proofs.Math.Option.{Option, none, some}
 use Rattle.words.specs.Lists.{tab}
 use Rattle.words.specs.First.{◌or_else◌, first}
-use Rattle.format.specs.Answer.{Refusal, Answer, accept, refuse, Outcome, refusing}
+use Rattle.format.specs.Answer.{Refusal, Outcome, refusing}
 use Rattle.format.specs.Code.{text_refusal_of}
 use Rattle.format.specs.declared.answer.TextRefusal.{TextRefusal}
 use Rattle.format.specs.Policy.{Policy}
@@ -13,11 +13,6 @@ use Rattle.xml.specs.Read.{within}
 use Rattle.xml_calls.specs.Calls.{resulting}
 use Rattle.xml.specs.Write.{rule_text, rule_text_fault, rules_text}
 use Rattle.text_write.specs.Laid.{Lays}
-
--- what the answer stands for
-abbrev pub answer_of : Result ℕ TextRefusal → Answer
-answer_of (Ok n) = accept n
-answer_of (Err r) = refuse (text_refusal_of r)
 
 -- the rules' texts without the tags around them, and the first fault
 unfoldable pub inner_text : List ℕ → Policy → List ℕ

@@ -5,7 +5,8 @@ ghost use Rattle.format.specs.Policy.{policy_of};
 ghost use Rattle.xml.specs.Names.{good_names};
 ghost use Rattle.xml.specs.Write.{rules_text};
 ghost use Rattle.text_write.specs.Pieces.{most_rules_bytes, most_text_bytes};
-ghost use Rattle.text_write.specs.Wrote.{answer_of, inner_text, rules_fault, Ran, writing};
+ghost use Rattle.answers.specs.Code.{converted_of, outcome};
+ghost use Rattle.text_write.specs.Wrote.{inner_text, rules_fault, Ran, writing};
 
 use crate::put::put;
 use crate::rule::{has_range, put_rule};
@@ -47,7 +48,7 @@ fn put_set(output: &mut [u8], list: &[u8], policy: &Policy) -> Result<usize, Tex
 // The text at the front of the output, and its length; bytes past it are as they were, and with a refusal all are.
 pub fn write_text(policy: &Policy, list: &[u8], output: &mut [u8]) -> Result<usize, TextRefusal>
     requires { good_names list.now ≡ true }
-    ensures { record { answer = answer_of result; state = output.new } ≡ writing list.now (policy_of policy.now.image.now) output.old }
+    ensures { outcome (converted_of result) output.new ≡ writing list.now (policy_of policy.now.image.now) output.old }
 {
     let n = put_set(&mut [], list, policy)?;
     if output.len() < n {

@@ -14,5 +14,5 @@ returns-then-not-good_names c =
 
 pub returns : goal.returns
 returns c =
-    write-is _ _ _ _ _ (sym c.in_ok-policy.ensures.fault) (sym c.good_names.ensures ∙ c.if-not-good_names.false)
+    write-is _ _ _ (sym c.in_ok-policy.ensures.fault) (sym c.good_names.ensures ∙ c.if-not-good_names.false)
     (rw c.in_ok-policy.ensures.image at c.write_text.ensures)
