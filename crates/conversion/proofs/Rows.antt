@@ -2,33 +2,26 @@
 -- Assumes nothing.
 use mathlib.Core.Path.{◌≡◌, ◌∙◌}
 use Prim.Native.Nat.{ℕ}
-use mathlib.Core.Bool.{true, false}
 use mathlib.Core.List.{List}
 use mathlib.Core.Option.{none, some}
 use lib.ListN.{length}
-use Rattle.words.specs.First.{◌or_else◌, unless}
-use Rattle.word_laws.proofs.First.{unless-passes}
-use Rattle.format.specs.Answer.{refuse, Refusal, refusal, Outcome, refusing}
+use Rattle.words.specs.First.{◌or_else◌}
+use Rattle.format.specs.Answer.{refuse, Refusal, Outcome, refusing}
 use Rattle.format.specs.Policy.{policy_fault, policy_of}
-use Rattle.xml.specs.Names.{good_names, names_fault}
+use Rattle.xml.specs.Names.{names_fault}
 use Rattle.xml_calls.specs.Calls.{resulting, read_fault, read_image, read_rules, write_fault, write_rules}
 use Rattle.text_write.specs.Wrote.{writing}
 use Rattle.text_write.proofs.Whole.{writing-is}
 use Rattle.answers.specs.Code.{outcome}
-
--- a good list passes its row
-names-pass : (l : List ℕ) → good_names l ≡ true → names_fault l ≡ none
-unfolding names_fault
-names-pass l e = unless-passes (refusal 42 0 0) e
 
 module _ (text l second output : List ℕ) where
   pub read-policy : (r : Refusal) → policy_fault second ≡ some r → outcome (refuse r) output ≡ read_rules text l second output
   unfolding read_rules read_fault refusing ◌or_else◌
   read-policy r e = rw e
 
-  pub read-names : policy_fault second ≡ none → good_names l ≡ false → outcome (refuse (refusal 42 0 0)) output ≡ read_rules text l second output
-  unfolding read_rules read_fault names_fault unless refusing ◌or_else◌
-  read-names p e = rw (p, e)
+  pub read-names : (r : Refusal) → policy_fault second ≡ none → names_fault l ≡ some r → outcome (refuse r) output ≡ read_rules text l second output
+  unfolding read_rules read_fault refusing ◌or_else◌
+  read-names r p e = rw (p, e)
 
   -- what reading the text has come to is `read_rules` by its own words
   pub read-is : {o : Outcome (List ℕ)} → o ≡ refusing (read_fault text l second (length output)) output (resulting (read_image text l second) output)
@@ -41,10 +34,10 @@ module _ (policy l output : List ℕ) where
   unfolding write_rules write_fault refusing ◌or_else◌
   write-policy r e = rw e
 
-  pub write-names : policy_fault policy ≡ none → good_names l ≡ false → outcome (refuse (refusal 42 0 0)) output ≡ write_rules policy l output
-  unfolding write_rules write_fault names_fault unless refusing ◌or_else◌
-  write-names p e = rw (p, e)
+  pub write-names : (r : Refusal) → policy_fault policy ≡ none → names_fault l ≡ some r → outcome (refuse r) output ≡ write_rules policy l output
+  unfolding write_rules write_fault refusing ◌or_else◌
+  write-names r p e = rw (p, e)
 
   pub write-is :
-      {o : Outcome (List ℕ)} → policy_fault policy ≡ none → good_names l ≡ true → o ≡ writing l (policy_of policy) output → o ≡ write_rules policy l output
-  write-is p e h = h ∙ writing-is policy l output p (names-pass l e)
+      {o : Outcome (List ℕ)} → policy_fault policy ≡ none → names_fault l ≡ none → o ≡ writing l (policy_of policy) output → o ≡ write_rules policy l output
+  write-is p e h = h ∙ writing-is policy l output p e

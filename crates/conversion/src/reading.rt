@@ -5,7 +5,7 @@ ghost use Rattle.xml_calls.specs.Calls.{read_rules};
 ghost use Rattle.answers.specs.Code.{converted_of, outcome};
 
 use format::answer::TextRefusal;
-use names::good::good_names;
+use names::good::Names;
 use policy_check::policy::Policy;
 use text_read::read::read_text;
 
@@ -19,8 +19,6 @@ pub fn read_rules(
     ensures { outcome (converted_of result) output.new ≡ read_rules text.now names.now second.now output.old }
 {
     let second = Policy::check(second)?;
-    if !good_names(names) {
-        return Err(TextRefusal::NotListed);
-    }
-    read_text(text, names, &second, output)
+    let names = Names::check(names)?;
+    read_text(text, &names, &second, output)
 }

@@ -5,7 +5,7 @@ ghost use Rattle.xml_calls.specs.Calls.{write_rules};
 ghost use Rattle.answers.specs.Code.{converted_of, outcome};
 
 use format::answer::TextRefusal;
-use names::good::good_names;
+use names::good::Names;
 use policy_check::policy::Policy;
 use text_write::text::write_text;
 
@@ -14,8 +14,6 @@ pub fn write_rules(policy: &[u8], names: &[u8], output: &mut [u8]) -> Result<usi
     ensures { outcome (converted_of result) output.new ≡ write_rules policy.now names.now output.old }
 {
     let policy = Policy::check(policy)?;
-    if !good_names(names) {
-        return Err(TextRefusal::NotListed);
-    }
-    write_text(&policy, names, output)
+    let names = Names::check(names)?;
+    write_text(&policy, &names, output)
 }

@@ -1,11 +1,12 @@
 // Looking up in a good list of names.
 ghost use Rattle.std.specs.Prelude.{◌≡◌, true, ◌+◌, ◌<◌, ◌≤◌, length, IfSome};
 ghost use Rattle.words.specs.Bytes.{part};
-ghost use Rattle.xml.specs.Names.{most_name_bytes, names, good_name, good_names, number_of, name_of};
+ghost use Rattle.xml.specs.Names.{most_name_bytes, names, good_name, number_of, name_of};
 ghost use Rattle.names.specs.Code.{entry_number, entry_name, number_found, name_found};
 ghost use Rattle.names.specs.Parts.{is_name, is_number};
 
 use crate::bytes::same_bytes;
+use crate::good::Names;
 use crate::layout::{BYTES_AT, ENTRY_BYTES, LENGTH_AT, MOST_NAME_BYTES, NUMBER_AT};
 use fields::field::u16_at;
 
@@ -21,27 +22,6 @@ fn is_name(list: &[u8], i: usize, kind: u8, name: &[u8]) -> bool
         && same_bytes(&list[at + BYTES_AT..at + BYTES_AT + n], name)
 }
 
-// The entry of this kind's name, from 0.
-fn entry_named(list: &[u8], kind: u8, name: &[u8]) -> Option<usize>
-    requires { (good_names list.now ≡ true) × (length name.now ≤ most_name_bytes) }
-    ensures { (entry_number list.now result ≡ number_of list.now kind name.now) × IfSome result (λ i. i < names list.now) }
-{
-    (0..list.len() / ENTRY_BYTES).find(|i| is_name(list, *i, kind, name))
-}
-
-// The number of this kind's name that stands in a text, n bytes from a byte on. The kind is a number, and no `NameKind`, since an answer is promised for every
-// number.
-pub fn number_of(list: &[u8], kind: u8, text: &[u8], at: usize, n: usize) -> Option<u16>
-    requires { (good_names list.now ≡ true) × (at + n ≤ length text.now) }
-    ensures { number_found result ≡ number_of list.now kind (part text.now at n) }
-{
-    if MOST_NAME_BYTES < n {
-        return None;
-    }
-    let i = entry_named(list, kind, &text[at..at + n])?;
-    Some(u16_at(list, ENTRY_BYTES * i + NUMBER_AT) as u16)
-}
-
 // Entry i is this kind's number.
 fn is_number(list: &[u8], i: usize, kind: u8, number: u16) -> bool
     requires { i < names list.now }
@@ -51,20 +31,42 @@ fn is_number(list: &[u8], i: usize, kind: u8, number: u16) -> bool
         & (u16_at(list, ENTRY_BYTES * i + NUMBER_AT) == u32::from(number))
 }
 
-// The entry of this kind's number, from 0.
-fn entry_numbered(list: &[u8], kind: u8, number: u16) -> Option<usize>
-    ensures { (entry_name list.now result ≡ name_of list.now kind number) × IfSome result (λ i. i < names list.now) }
-{
-    (0..list.len() / ENTRY_BYTES).find(|i| is_number(list, *i, kind, number))
-}
+impl<'a> Names<'a> {
+    // The entry of this kind's name, from 0.
+    fn entry_named(&self, kind: u8, name: &[u8]) -> Option<usize>
+        requires { length name.now ≤ most_name_bytes }
+        ensures { (entry_number self.now.list.now result ≡ number_of self.now.list.now kind name.now) × IfSome result (λ i. i < names self.now.list.now) }
+    {
+        (0..self.list.len() / ENTRY_BYTES).find(|i| is_name(self.list, *i, kind, name))
+    }
 
-// The name of this kind's number, whatever the kind.
-pub fn name_of(list: &[u8], kind: u8, number: u16) -> Option<&[u8]>
-    requires { good_names list.now ≡ true }
-    ensures { name_found result ≡ name_of list.now kind number }
-{
-    let i = entry_numbered(list, kind, number)?;
-    let n = usize::from(list[ENTRY_BYTES * i + LENGTH_AT]);
-    let at = ENTRY_BYTES * i + BYTES_AT;
-    Some(&list[at..at + n])
+    // The number of this kind's name that stands in a text, n bytes from a byte on. The kind is a number, and no `NameKind`, since an answer is promised for
+    // every number.
+    pub fn number_of(&self, kind: u8, text: &[u8], at: usize, n: usize) -> Option<u16>
+        requires { at + n ≤ length text.now }
+        ensures { number_found result ≡ number_of self.now.list.now kind (part text.now at n) }
+    {
+        if MOST_NAME_BYTES < n {
+            return None;
+        }
+        let i = self.entry_named(kind, &text[at..at + n])?;
+        Some(u16_at(self.list, ENTRY_BYTES * i + NUMBER_AT) as u16)
+    }
+
+    // The entry of this kind's number, from 0.
+    fn entry_numbered(&self, kind: u8, number: u16) -> Option<usize>
+        ensures { (entry_name self.now.list.now result ≡ name_of self.now.list.now kind number) × IfSome result (λ i. i < names self.now.list.now) }
+    {
+        (0..self.list.len() / ENTRY_BYTES).find(|i| is_number(self.list, *i, kind, number))
+    }
+
+    // The name of this kind's number, whatever the kind.
+    pub fn name_of(&self, kind: u8, number: u16) -> Option<&'a [u8]>
+        ensures { name_found result ≡ name_of self.now.list.now kind number }
+    {
+        let i = self.entry_numbered(kind, number)?;
+        let n = usize::from(self.list[ENTRY_BYTES * i + LENGTH_AT]);
+        let at = ENTRY_BYTES * i + BYTES_AT;
+        Some(&self.list[at..at + n])
+    }
 }

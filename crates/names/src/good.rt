@@ -1,6 +1,8 @@
 // The check of a list of names.
-ghost use Rattle.std.specs.Prelude.{◌≡◌, ℕ, ◌<◌, ◌≤◌};
-ghost use Rattle.xml.specs.Names.{most_name_bytes, names, name_in, length_of, good_name, apart as apart_of, good_names};
+ghost use Rattle.std.specs.Prelude.{◌≡◌, true, ℕ, ◌<◌, ◌≤◌, IfOk};
+ghost use Rattle.words.specs.Bytes.{byte_at};
+ghost use Rattle.format.specs.Code.{text_fault_of};
+ghost use Rattle.xml.specs.Names.{most_name_bytes, names, name_in, length_of, good_name, apart as apart_of, good_names, names_fault};
 ghost use Rattle.names.specs.Parts.{good_byte, good_bytes, new_name};
 
 use crate::bytes::{name_byte, same_bytes};
@@ -9,6 +11,7 @@ use crate::layout::{
     TYPE_NAMES,
 };
 use fields::field::u16_at;
+use format::answer::TextRefusal;
 
 // A byte of an entry: one of the name, or zero after it.
 fn good_byte(b: u8, inside: bool) -> bool
@@ -86,4 +89,25 @@ pub fn good_names(list: &[u8]) -> bool
         return false;
     }
     (0..n).all(|i| good_name(list, i)) && (0..n).all(|i| new_name(list, i))
+}
+
+// A list of names that has passed its check. That its elements are bytes is told of a list that a function is lent, but not of one within a type.
+#[derive(Clone, Copy)]
+pub struct Names<'a> {
+    pub list: &'a [u8],
+    ghost good: { good_names list.now ≡ true },
+    ghost bytes: { (i : ℕ) → byte_at list.now i < 256 },
+}
+
+impl<'a> Names<'a> {
+    // Any bytes as a list of names.
+    pub fn check(list: &'a [u8]) -> Result<Names<'a>, TextRefusal>
+        ensures fault { text_fault_of result ≡ names_fault list.now }
+        ensures list { IfOk result (λ checked. checked.list.now ≡ list.now) }
+    {
+        if !good_names(list) {
+            return Err(TextRefusal::NotListed);
+        }
+        Ok(Names { list })
+    }
 }

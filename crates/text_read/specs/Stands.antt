@@ -46,7 +46,7 @@ pub record Turned (t l second : List ℕ) (room : ℕ) (s : Reading) (tag : Tag)
 
 -- the same by what is read from
 abbrev pub TurnedBy : Source → List ℕ → Reading → Tag → Sheet → Result (Unit {0}) TextRefusal → Type 0
-TurnedBy source second s tag sheet r = Turned source.text.now source.list.now second source.room s tag sheet r
+TurnedBy source second s tag sheet r = Turned source.text.now source.names.list.now second source.room s tag sheet r
 
 -- all tags were taken in: the first fault, or else the rules
 pub record ReadIs (l second : List ℕ) (room : ℕ) (tags : List Tag) (sheet : Sheet) (r : Result (Unit {0}) TextRefusal) : Type 0 where

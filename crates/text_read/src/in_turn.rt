@@ -43,7 +43,7 @@ impl Sheet {
     // values stand.
     pub fn read_tags(&mut self, source: &Source<'_>, end: usize) -> Result<(), TextRefusal>
         requires { (end ≤ length source.now.text.now) × Stands source.now.text.now nothing_read self.old }
-        ensures { (second : List ℕ) → source.now.permissions ≡ blocks second - rule_count second → ReadIs source.now.list.now second source.now.room (map tag_of (tags_in (take end source.now.text.now))) self.new result }
+        ensures { (second : List ℕ) → source.now.permissions ≡ blocks second - rule_count second → ReadIs source.now.names.list.now second source.now.room (map tag_of (tags_in (take end source.now.text.now))) self.new result }
     {
         let mut at = 0;
         while at < end {

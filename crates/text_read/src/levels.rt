@@ -48,8 +48,8 @@ impl Source<'_> {
     // Puts level i, whose text stands between two commas: its type and its value stand round an equals sign.
     fn read_level(&self, s: Span, d: &mut [u8; BLOCK_BYTES], i: usize) -> Result<(), TextRefusal>
         requires { InText self.now.text.now s }
-        ensures fault { text_fault_of result ≡ level_fault self.now.list.now (parted 61 (value_at self.now.text.now s)) }
-        ensures level { OnOk result ((ls : List Level) (dr : Draft) → length ls ≡ i → d.old ≡ draft_block ls dr → d.new ≡ draft_block (ls ++ (level_of self.now.list.now (parted 61 (value_at self.now.text.now s)) ∷ [])) dr) }
+        ensures fault { text_fault_of result ≡ level_fault self.now.names.list.now (parted 61 (value_at self.now.text.now s)) }
+        ensures level { OnOk result ((ls : List Level) (dr : Draft) → length ls ≡ i → d.old ≡ draft_block ls dr → d.new ≡ draft_block (ls ++ (level_of self.now.names.list.now (parted 61 (value_at self.now.text.now s)) ∷ [])) dr) }
     {
         let sign = until(self.text, s.from, s.to, b'=');
         let kind = self.number_in(
@@ -77,9 +77,9 @@ impl Source<'_> {
         d: &mut [u8; BLOCK_BYTES],
     ) -> Result<usize, TextRefusal>
         requires { InText self.now.text.now context }
-        ensures fault { text_fault_of result ≡ first_of (level_fault self.now.list.now) (level_texts (value_at self.now.text.now context)) }
+        ensures fault { text_fault_of result ≡ first_of (level_fault self.now.names.list.now) (level_texts (value_at self.now.text.now context)) }
         ensures depth { IfOk result (λ depth. depth ≡ length (level_texts (value_at self.now.text.now context))) }
-        ensures levels { OnOk result ((dr : Draft) → d.old ≡ draft_block [] dr → d.new ≡ draft_block (map (level_of self.now.list.now) (level_texts (value_at self.now.text.now context))) dr) }
+        ensures levels { OnOk result ((dr : Draft) → d.old ≡ draft_block [] dr → d.new ≡ draft_block (map (level_of self.now.names.list.now) (level_texts (value_at self.now.text.now context))) dr) }
     {
         let mut depth = 0;
         if blank(self.text, context) {

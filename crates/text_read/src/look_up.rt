@@ -11,7 +11,6 @@ use crate::source::Source;
 use fields::number::{Operation, Role, Target};
 use fields::privilege::Privilege;
 use format::answer::TextRefusal;
-use names::find::number_of;
 use names::kind::NameKind;
 use names::layout::MOST_NAME_BYTES;
 use tags::cut::squeeze;
@@ -21,22 +20,24 @@ impl Source<'_> {
     // The number of a name of a kind, white space left out. What has more bytes than a name may have is not listed.
     pub fn number_in(&self, kind: NameKind, s: Span) -> Result<u16, TextRefusal>
         requires { InText self.now.text.now s }
-        ensures fault { text_fault_of result ≡ listed (number_of self.now.list.now (name_code kind) (value_at self.now.text.now s)) }
-        ensures number { IfOk result (λ n. n ≡ or_zero (number_of self.now.list.now (name_code kind) (value_at self.now.text.now s))) }
+        ensures fault { text_fault_of result ≡ listed (number_of self.now.names.list.now (name_code kind) (value_at self.now.text.now s)) }
+        ensures number { IfOk result (λ n. n ≡ or_zero (number_of self.now.names.list.now (name_code kind) (value_at self.now.text.now s))) }
     {
         let mut name = [0u8; MOST_NAME_BYTES];
         let n = squeeze(self.text, s.from, s.to, &mut name);
         if MOST_NAME_BYTES < n {
             return Err(TextRefusal::NotListed);
         }
-        number_of(self.list, kind.code(), &name, 0, n).ok_or(TextRefusal::NotListed)
+        self.names
+            .number_of(kind.code(), &name, 0, n)
+            .ok_or(TextRefusal::NotListed)
     }
 
     // The number of a role's name.
     pub fn role_in(&self, s: Span) -> Result<Role, TextRefusal>
         requires { InText self.now.text.now s }
-        ensures fault { text_fault_of result ≡ listed (number_of self.now.list.now role_names (value_at self.now.text.now s)) }
-        ensures number { IfOk result (λ role. role.0 ≡ or_zero (number_of self.now.list.now role_names (value_at self.now.text.now s))) }
+        ensures fault { text_fault_of result ≡ listed (number_of self.now.names.list.now role_names (value_at self.now.text.now s)) }
+        ensures number { IfOk result (λ role. role.0 ≡ or_zero (number_of self.now.names.list.now role_names (value_at self.now.text.now s))) }
     {
         Ok(Role(u32::from(self.number_in(NameKind::Role, s)?)))
     }
@@ -44,8 +45,8 @@ impl Source<'_> {
     // Those of an operation's and of a target's.
     pub fn privilege_in(&self, operation: Span, target: Span) -> Result<Privilege, TextRefusal>
         requires { InText self.now.text.now operation × InText self.now.text.now target }
-        ensures fault { text_fault_of result ≡ privilege_fault self.now.list.now (value_at self.now.text.now operation) (value_at self.now.text.now target) }
-        ensures privilege { IfOk result (λ p. privilege_here p ≡ privilege_of self.now.list.now (value_at self.now.text.now operation) (value_at self.now.text.now target)) }
+        ensures fault { text_fault_of result ≡ privilege_fault self.now.names.list.now (value_at self.now.text.now operation) (value_at self.now.text.now target) }
+        ensures privilege { IfOk result (λ p. privilege_here p ≡ privilege_of self.now.names.list.now (value_at self.now.text.now operation) (value_at self.now.text.now target)) }
     {
         Ok(Privilege {
             operation: Operation(self.number_in(NameKind::Operation, operation)?),

@@ -1,7 +1,6 @@
 // Reading: the text's form, its tags, and the image that its rules make.
-ghost use Rattle.std.specs.Prelude.{◌≡◌, true, length};
+ghost use Rattle.std.specs.Prelude.{◌≡◌, length};
 ghost use Rattle.format.specs.Answer.{refusing};
-ghost use Rattle.xml.specs.Names.{good_names};
 ghost use Rattle.xml_calls.specs.Calls.{resulting, read_fault, read_image};
 ghost use Rattle.answers.specs.Code.{converted_of, outcome};
 
@@ -9,6 +8,7 @@ use crate::sheet::Sheet;
 use crate::source::Source;
 use fields::layout::BLOCK_BYTES;
 use format::answer::TextRefusal;
+use names::good::Names;
 use numbering::anew::write_image;
 use policy_check::policy::Policy;
 use reader::misfit::Misfit;
@@ -18,12 +18,11 @@ use reader::reached::reach_of;
 // is read.
 pub fn read_text(
     text: &[u8],
-    list: &[u8],
+    names: &Names<'_>,
     second: &Policy<'_>,
     output: &mut [u8],
 ) -> Result<usize, TextRefusal>
-    requires { good_names list.now ≡ true }
-    ensures { outcome (converted_of result) output.new ≡ refusing (read_fault text.now list.now second.now.image.now (length output.old)) output.old (resulting (read_image text.now list.now second.now.image.now) output.old) }
+    ensures { outcome (converted_of result) output.new ≡ refusing (read_fault text.now names.now.list.now second.now.image.now (length output.old)) output.old (resulting (read_image text.now names.now.list.now second.now.image.now) output.old) }
 {
     let reached = reach_of(text);
     let end = match reached {
@@ -33,7 +32,7 @@ pub fn read_text(
     let rules = second.rules as usize;
     let source = Source {
         text,
-        list,
+        names: *names,
         permissions: second.image.len() / BLOCK_BYTES - rules,
         room: output.len(),
     };

@@ -3,7 +3,7 @@ ghost use Rattle.std.specs.Prelude.{◌≡◌, ◌∷◌, [], true, cond, ◌+�
 ghost use Rattle.format.specs.Layout.{most_exclusions, member_bytes, most_members};
 ghost use Rattle.format.specs.Rule.{privilege_at, exclusion_at};
 ghost use Rattle.fields.specs.Code.{privilege_of};
-ghost use Rattle.xml.specs.Names.{role_names, good_names};
+ghost use Rattle.xml.specs.Names.{role_names};
 ghost use Rattle.xml.specs.Write.{member_text, exclusion_text};
 ghost use Rattle.text_write.specs.Words.{most_word_bytes};
 ghost use Rattle.text_write.specs.Laid.{Lays, Puts};
@@ -21,35 +21,41 @@ use fields::layout::{
 };
 use fields::privilege::Privilege;
 use format::answer::TextRefusal;
+use names::good::Names;
 use names::kind::NameKind;
 
 // A privilege, between two fixed pieces that tell what it is there.
 pub fn put_pair(
     output: &mut [u8],
     at: usize,
-    list: &[u8],
+    names: &Names<'_>,
     start: &[u8],
     between: &[u8],
     p: Privilege,
 ) -> Result<usize, TextRefusal>
-    requires list_value { (good_names list.now ≡ true) × (at + most_pair_bytes < 4294967296) }
+    requires at_bound { at + most_pair_bytes < 4294967296 }
     requires words { (length start.now ≤ most_word_bytes) × (length between.now ≤ most_word_bytes) }
-    ensures { Puts most_pair_bytes output.old at (pair_text list.now start.now between.now (privilege_of p)) (privilege_lost list.now (privilege_of p)) output.new result }
+    ensures { Puts most_pair_bytes output.old at (pair_text names.now.list.now start.now between.now (privilege_of p)) (privilege_lost names.now.list.now (privilege_of p)) output.new result }
 {
     let first = put(output, at, start);
-    let second = put_name(output, first, list, NameKind::Operation, p.operation.0)?;
+    let second = put_name(output, first, names, NameKind::Operation, p.operation.0)?;
     let third = put(output, second, between);
-    let fourth = put_name(output, third, list, NameKind::Target, p.target.0)?;
+    let fourth = put_name(output, third, names, NameKind::Target, p.target.0)?;
     Ok(put(output, fourth, ELEMENT_END))
 }
 
 // A role.
-fn put_role(output: &mut [u8], at: usize, list: &[u8], role: u16) -> Result<usize, TextRefusal>
-    requires { (good_names list.now ≡ true) × (at + most_role_bytes < 4294967296) }
-    ensures { Puts most_role_bytes output.old at (role_text list.now role) (name_lost list.now role_names role) output.new result }
+fn put_role(
+    output: &mut [u8],
+    at: usize,
+    names: &Names<'_>,
+    role: u16,
+) -> Result<usize, TextRefusal>
+    requires { at + most_role_bytes < 4294967296 }
+    ensures { Puts most_role_bytes output.old at (role_text names.now.list.now role) (name_lost names.now.list.now role_names role) output.new result }
 {
     let first = put(output, at, ROLE);
-    let second = put_name(output, first, list, NameKind::Role, role)?;
+    let second = put_name(output, first, names, NameKind::Role, role)?;
     Ok(put(output, second, ELEMENT_END))
 }
 
@@ -57,37 +63,37 @@ fn put_role(output: &mut [u8], at: usize, list: &[u8], role: u16) -> Result<usiz
 fn put_member(
     output: &mut [u8],
     at: usize,
-    list: &[u8],
+    names: &Names<'_>,
     kind: u8,
     p: Privilege,
 ) -> Result<usize, TextRefusal>
-    requires { (good_names list.now ≡ true) × (at + most_pair_bytes < 4294967296) }
-    ensures { Puts most_pair_bytes output.old at (member_text list.now kind (privilege_of p)) (member_lost list.now kind (privilege_of p)) output.new result }
+    requires { at + most_pair_bytes < 4294967296 }
+    ensures { Puts most_pair_bytes output.old at (member_text names.now.list.now kind (privilege_of p)) (member_lost names.now.list.now kind (privilege_of p)) output.new result }
 {
     if kind == OF_ROLES {
-        return put_role(output, at, list, p.operation.0);
+        return put_role(output, at, names, p.operation.0);
     }
-    put_pair(output, at, list, PRIVILEGE, TARGET, p)
+    put_pair(output, at, names, PRIVILEGE, TARGET, p)
 }
 
 // The n members that stand from a byte of the block on.
 fn put_members(
     output: &mut [u8],
     start: usize,
-    list: &[u8],
+    names: &Names<'_>,
     kind: u8,
     b: &[u8; BLOCK_BYTES],
     members: usize,
     n: usize,
 ) -> Result<usize, TextRefusal>
-    requires list_value { (good_names list.now ≡ true) × (start + most_members_bytes < 4294967296) }
+    requires start_bound { start + most_members_bytes < 4294967296 }
     requires n_le_most_members { (n ≤ most_members) × (members + member_bytes * most_members ≤ length b.now) }
-    ensures { Puts most_members_bytes output.old start (members_text list.now kind (λ i. privilege_at b.now (members + member_bytes * i)) n) (members_lost list.now kind (λ i. privilege_at b.now (members + member_bytes * i)) n) output.new result }
+    ensures { Puts most_members_bytes output.old start (members_text names.now.list.now kind (λ i. privilege_at b.now (members + member_bytes * i)) n) (members_lost names.now.list.now kind (λ i. privilege_at b.now (members + member_bytes * i)) n) output.new result }
 {
     let mut at = start;
     for i in 0..n {
         let p = Privilege::read(b, members + MEMBER_BYTES * i);
-        at = put_member(output, at, list, kind, p)?;
+        at = put_member(output, at, names, kind, p)?;
     }
     Ok(at)
 }
@@ -114,18 +120,18 @@ fn put_opening(output: &mut [u8], at: usize, kind: u8, m: u8) -> usize
 pub fn put_exclusion(
     output: &mut [u8],
     at: usize,
-    list: &[u8],
+    names: &Names<'_>,
     b: &[u8; BLOCK_BYTES],
     e: usize,
 ) -> Result<usize, TextRefusal>
-    requires list_value { (good_names list.now ≡ true) × (at + most_exclusion_bytes < 4294967296) }
+    requires at_bound { at + most_exclusion_bytes < 4294967296 }
     requires e_lt { (e < most_exclusions) × Countable (exclusion_at b.now e) }
-    ensures { Puts most_exclusion_bytes output.old at (exclusion_text list.now (exclusion_at b.now e)) (exclusion_lost list.now (exclusion_at b.now e)) output.new result }
+    ensures { Puts most_exclusion_bytes output.old at (exclusion_text names.now.list.now (exclusion_at b.now e)) (exclusion_lost names.now.list.now (exclusion_at b.now e)) output.new result }
 {
     let begin = EXCLUSION_BYTES * e;
     let kind = b[EXCLUSION_KIND_AT + begin];
     let n = usize::from(b[EXCLUSION_N_AT + begin]);
     let first = put_opening(output, at, kind, b[EXCLUSION_M_AT + begin]);
-    let second = put_members(output, first, list, kind, b, MEMBERS_AT + begin, n)?;
+    let second = put_members(output, first, names, kind, b, MEMBERS_AT + begin, n)?;
     Ok(put(output, second, by_kind(kind, ROLES_END, PRIVILEGES_END)))
 }

@@ -1,13 +1,13 @@
 // What every piece of the text is laid down by: bytes and names. Past the output's end nothing is written. Each answers where the next byte goes.
 ghost use Rattle.std.specs.Prelude.{◌≡◌, true, ◌+◌, ◌<◌, ◌≤◌, length, set};
-ghost use Rattle.xml.specs.Names.{most_name_bytes, good_names};
+ghost use Rattle.xml.specs.Names.{most_name_bytes};
 ghost use Rattle.xml.specs.Write.{name_text};
 ghost use Rattle.names.specs.Code.{name_code};
 ghost use Rattle.text_write.specs.Laid.{Lays, Puts};
 ghost use Rattle.text_write.specs.Lost.{name_lost};
 
 use format::answer::TextRefusal;
-use names::find::name_of;
+use names::good::Names;
 use names::kind::NameKind;
 
 // A byte.
@@ -34,14 +34,14 @@ pub fn put(output: &mut [u8], at: usize, s: &[u8]) -> usize
 pub fn put_name(
     output: &mut [u8],
     at: usize,
-    list: &[u8],
+    names: &Names<'_>,
     kind: NameKind,
     number: u16,
 ) -> Result<usize, TextRefusal>
-    requires { (good_names list.now ≡ true) × (at + most_name_bytes < 4294967296) }
-    ensures { Puts most_name_bytes output.old at (name_text list.now (name_code kind) number) (name_lost list.now (name_code kind) number) output.new result }
+    requires { at + most_name_bytes < 4294967296 }
+    ensures { Puts most_name_bytes output.old at (name_text names.now.list.now (name_code kind) number) (name_lost names.now.list.now (name_code kind) number) output.new result }
 {
-    let Some(name) = name_of(list, kind.code(), number) else {
+    let Some(name) = names.name_of(kind.code(), number) else {
         return Err(TextRefusal::NotListed);
     };
     Ok(put(output, at, name))

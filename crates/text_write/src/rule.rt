@@ -4,7 +4,7 @@ ghost use Rattle.words.specs.Bytes.{byte_at};
 ghost use Rattle.format.specs.Layout.{block_bytes, most_levels, depth_at};
 ghost use Rattle.format.specs.Rule.{level_at, rule_at};
 ghost use Rattle.policy_check.specs.Parts.{step_at};
-ghost use Rattle.xml.specs.Names.{most_name_bytes, good_names};
+ghost use Rattle.xml.specs.Names.{most_name_bytes};
 ghost use Rattle.xml.specs.Write.{value_text, level_text, context_text, rule_text};
 ghost use Rattle.text_write.specs.Words.{most_word_bytes};
 ghost use Rattle.text_write.specs.Laid.{Lays, Puts};
@@ -23,6 +23,7 @@ use fields::layout::{
 };
 use fields::privilege::Privilege;
 use format::answer::TextRefusal;
+use names::good::Names;
 use names::kind::NameKind;
 
 // ---- steps
@@ -31,15 +32,15 @@ use names::kind::NameKind;
 fn put_step(
     output: &mut [u8],
     at: usize,
-    list: &[u8],
+    names: &Names<'_>,
     start: &[u8],
     b: &[u8; BLOCK_BYTES],
     flag: usize,
     step: usize,
 ) -> Result<usize, TextRefusal>
-    requires list_value { (good_names list.now ≡ true) × (at + most_pair_bytes < 4294967296) }
+    requires at_bound { at + most_pair_bytes < 4294967296 }
     requires start { (length start.now ≤ most_word_bytes) × (flag < block_bytes) × (step + 3 < block_bytes) }
-    ensures { Puts most_pair_bytes output.old at (set_step_text list.now start.now (step_at b.now flag step)) (step_lost list.now (step_at b.now flag step)) output.new result }
+    ensures { Puts most_pair_bytes output.old at (set_step_text names.now.list.now start.now (step_at b.now flag step)) (step_lost names.now.list.now (step_at b.now flag step)) output.new result }
 {
     if b[flag] != 1 {
         return Ok(at);
@@ -47,7 +48,7 @@ fn put_step(
     put_pair(
         output,
         at,
-        list,
+        names,
         start,
         TARGET_URI,
         Privilege::read(b, step),
@@ -58,14 +59,30 @@ fn put_step(
 fn put_steps(
     output: &mut [u8],
     at: usize,
-    list: &[u8],
+    names: &Names<'_>,
     b: &[u8; BLOCK_BYTES],
 ) -> Result<usize, TextRefusal>
-    requires { (good_names list.now ≡ true) × (at + most_steps_bytes < 4294967296) }
-    ensures { Puts most_steps_bytes output.old at (steps_text list.now (rule_at b.now)) (steps_lost list.now (rule_at b.now)) output.new result }
+    requires { at + most_steps_bytes < 4294967296 }
+    ensures { Puts most_steps_bytes output.old at (steps_text names.now.list.now (rule_at b.now)) (steps_lost names.now.list.now (rule_at b.now)) output.new result }
 {
-    let first = put_step(output, at, list, FIRST_STEP, b, HAS_FIRST_AT, FIRST_STEP_AT)?;
-    put_step(output, first, list, LAST_STEP, b, HAS_LAST_AT, LAST_STEP_AT)
+    let first = put_step(
+        output,
+        at,
+        names,
+        FIRST_STEP,
+        b,
+        HAS_FIRST_AT,
+        FIRST_STEP_AT,
+    )?;
+    put_step(
+        output,
+        first,
+        names,
+        LAST_STEP,
+        b,
+        HAS_LAST_AT,
+        LAST_STEP_AT,
+    )
 }
 
 // ---- the context
@@ -74,17 +91,17 @@ fn put_steps(
 fn put_value(
     output: &mut [u8],
     at: usize,
-    list: &[u8],
+    names: &Names<'_>,
     b: &[u8; BLOCK_BYTES],
     i: usize,
 ) -> Result<usize, TextRefusal>
-    requires { (good_names list.now ≡ true) × (at + most_name_bytes < 4294967296) × (i < most_levels) }
-    ensures { Puts most_name_bytes output.old at (value_text list.now (level_at b.now i)) (value_lost list.now (level_at b.now i)) output.new result }
+    requires { (at + most_name_bytes < 4294967296) × (i < most_levels) }
+    ensures { Puts most_name_bytes output.old at (value_text names.now.list.now (level_at b.now i)) (value_lost names.now.list.now (level_at b.now i)) output.new result }
 {
     let mark = b[LEVEL_MARK_AT + LEVEL_BYTES * i];
     if mark == FIXED {
         let value = u16_at(b, LEVEL_VALUE_AT + LEVEL_BYTES * i) as u16;
-        return put_name(output, at, list, NameKind::ContextValue, value);
+        return put_name(output, at, names, NameKind::ContextValue, value);
     }
     if mark == EVERY {
         return Ok(put(output, at, spelling::EVERY));
@@ -107,35 +124,35 @@ fn put_comma(output: &mut [u8], at: usize, i: usize) -> usize
 fn put_level(
     output: &mut [u8],
     at: usize,
-    list: &[u8],
+    names: &Names<'_>,
     b: &[u8; BLOCK_BYTES],
     i: usize,
 ) -> Result<usize, TextRefusal>
-    requires { (good_names list.now ≡ true) × (at + most_level_bytes < 4294967296) × (i < most_levels) }
-    ensures { Puts most_level_bytes output.old at (comma_text i ++ level_text list.now (level_at b.now i)) (level_lost list.now (level_at b.now i)) output.new result }
+    requires { (at + most_level_bytes < 4294967296) × (i < most_levels) }
+    ensures { Puts most_level_bytes output.old at (comma_text i ++ level_text names.now.list.now (level_at b.now i)) (level_lost names.now.list.now (level_at b.now i)) output.new result }
 {
     let kind = u16_at(b, LEVEL_TYPE_AT + LEVEL_BYTES * i) as u16;
     let first = put_comma(output, at, i);
-    let second = put_name(output, first, list, NameKind::ContextType, kind)?;
+    let second = put_name(output, first, names, NameKind::ContextType, kind)?;
     let third = put(output, second, EQUALS);
-    put_value(output, third, list, b, i)
+    put_value(output, third, names, b, i)
 }
 
 // The levels, outermost first.
 fn put_context(
     output: &mut [u8],
     start: usize,
-    list: &[u8],
+    names: &Names<'_>,
     b: &[u8; BLOCK_BYTES],
 ) -> Result<usize, TextRefusal>
-    requires list_value { (good_names list.now ≡ true) × (start + most_context_bytes < 4294967296) }
+    requires start_bound { start + most_context_bytes < 4294967296 }
     requires depth { byte_at b.now depth_at ≤ most_levels }
-    ensures { Puts most_context_bytes output.old start (context_text list.now (rule_at b.now)) (context_lost list.now (rule_at b.now)) output.new result }
+    ensures { Puts most_context_bytes output.old start (context_text names.now.list.now (rule_at b.now)) (context_lost names.now.list.now (rule_at b.now)) output.new result }
 {
     let depth = usize::from(b[DEPTH_AT]);
     let mut at = start;
     for i in 0..depth {
-        at = put_level(output, at, list, b, i)?;
+        at = put_level(output, at, names, b, i)?;
     }
     Ok(at)
 }
@@ -154,17 +171,17 @@ pub fn has_range(b: &[u8; BLOCK_BYTES]) -> bool
 fn put_exclusions(
     output: &mut [u8],
     start: usize,
-    list: &[u8],
+    names: &Names<'_>,
     b: &[u8; BLOCK_BYTES],
 ) -> Result<usize, TextRefusal>
-    requires list_value { (good_names list.now ≡ true) × (start + most_exclusions_bytes < 4294967296) }
+    requires start_bound { start + most_exclusions_bytes < 4294967296 }
     requires writable { Writable b.now }
-    ensures { Puts most_exclusions_bytes output.old start (exclusions_text list.now (rule_at b.now)) (exclusions_lost list.now (rule_at b.now)) output.new result }
+    ensures { Puts most_exclusions_bytes output.old start (exclusions_text names.now.list.now (rule_at b.now)) (exclusions_lost names.now.list.now (rule_at b.now)) output.new result }
 {
     let exclusions = usize::from(b[EXCLUSIONS_AT]);
     let mut at = start;
     for e in 0..exclusions {
-        at = put_exclusion(output, at, list, b, e)?;
+        at = put_exclusion(output, at, names, b, e)?;
     }
     Ok(at)
 }
@@ -173,17 +190,17 @@ fn put_exclusions(
 pub fn put_rule(
     output: &mut [u8],
     at: usize,
-    list: &[u8],
+    names: &Names<'_>,
     b: &[u8; BLOCK_BYTES],
 ) -> Result<usize, TextRefusal>
-    requires list_value { (good_names list.now ≡ true) × (at + most_rule_bytes < 4294967296) }
+    requires at_bound { at + most_rule_bytes < 4294967296 }
     requires writable { Writable b.now }
-    ensures { Puts most_rule_bytes output.old at (rule_text list.now (rule_at b.now)) (rule_lost list.now (rule_at b.now)) output.new result }
+    ensures { Puts most_rule_bytes output.old at (rule_text names.now.list.now (rule_at b.now)) (rule_lost names.now.list.now (rule_at b.now)) output.new result }
 {
     let first = put(output, at, RULE);
-    let second = put_context(output, first, list, b)?;
+    let second = put_context(output, first, names, b)?;
     let third = put(output, second, TAG_END);
-    let fourth = put_steps(output, third, list, b)?;
-    let fifth = put_exclusions(output, fourth, list, b)?;
+    let fourth = put_steps(output, third, names, b)?;
+    let fifth = put_exclusions(output, fourth, names, b)?;
     Ok(put(output, fifth, RULE_END))
 }

@@ -1,4 +1,4 @@
-use mathlib.Core.Path.{sym, ◌∙◌}
+use mathlib.Core.Path.{sym}
 use Rattle.std.proofs.lemmas.Result.{err_from_is_err_and}
 use Rattle.conversion.proofs.Rows.{write-policy, write-names, write-is}
 use Rattle.conversion.proofs.writing.write_rules.Goals as goal
@@ -8,11 +8,12 @@ returns-in_err-policy c =
     let p = err_from_is_err_and c.from_residual.result c.from_residual.ensures.1 in
     rw (p.1, p.2) (write-policy _ _ _ _ (sym c.in_err-policy.ensures.fault))
 
-pub returns-then-not-good_names : goal.returns-then-not-good_names
-returns-then-not-good_names c =
-    write-names _ _ _ (sym c.in_ok-policy.ensures.fault) (sym c.good_names.ensures ∙ c.if-not-good_names.true)
+pub returns-in_err-names : goal.returns-in_err-names
+returns-in_err-names c =
+    let p = err_from_is_err_and c.from_residual-in_err-names.result c.from_residual-in_err-names.ensures.1 in
+    rw (p.1, p.2) (write-names _ _ _ _ (sym c.in_ok-policy.ensures.fault) (sym c.in_err-names.ensures.fault))
 
 pub returns : goal.returns
 returns c =
-    write-is _ _ _ (sym c.in_ok-policy.ensures.fault) (sym c.good_names.ensures ∙ c.if-not-good_names.false)
-    (rw c.in_ok-policy.ensures.image at c.write_text.ensures)
+    write-is _ _ _ (sym c.in_ok-policy.ensures.fault) (sym c.in_ok-names.ensures.fault)
+    (rw (c.in_ok-policy.ensures.image, c.in_ok-names.ensures.list) at c.write_text.ensures)

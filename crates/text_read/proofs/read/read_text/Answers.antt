@@ -30,7 +30,7 @@ ended c =
 
 -- they were read
 read : (c : In_ok-read_tags) → let a = c.args in
-    ReadIs a.list.now a.second.now.image.now (length a.output.now) (good_tags a.text.now) c.read_tags.new.self (Ok tt)
+    ReadIs a.names.now.list.now a.second.now.image.now (length a.output.now) (good_tags a.text.now) c.read_tags.new.self (Ok tt)
 read c =
     let a = c.args in
     let p = a.second.now in
@@ -38,11 +38,11 @@ read c =
     (c.in_ok-read_tags.ensures p.image.now (ap (λ n. blocks p.image.now - n) p.rules_are))
 
 -- and the text is of the form
-no-fault : (c : In_default) → let a = c.args in read_fault a.text.now a.list.now a.second.now.image.now (length a.output.now) ≡ none
+no-fault : (c : In_default) → let a = c.args in read_fault a.text.now a.names.now.list.now a.second.now.image.now (length a.output.now) ≡ none
 no-fault c =
     let a = c.args in
     let p = a.second.now in
-    faultless a.text.now a.list.now p.image.now (length a.output.now) p.accepted c.requires (read (goal.at.In_default c).In_ok-read_tags).fault
+    faultless a.text.now a.names.now.list.now p.image.now (length a.output.now) p.accepted a.names.now.good (read (goal.at.In_default c).In_ok-read_tags).fault
     c.in_default.ensures.0
 
 pub overflow_sub-source : goal.overflow_sub-source
@@ -52,8 +52,7 @@ pub invariant_of-source : goal.invariant_of-source
 invariant_of-source c =
     let p = c.args.second.now in
     record {
-      good = c.requires;
-      numbers = number_fits c.args.list.now (slice-bytes _ c.type_inv.list);
+      numbers = number_fits c.args.names.now.list.now (slice-bytes _ (λ i. record { fits = c.args.names.now.bytes i }));
       few = omega (arith, (policy-blocked p.image.now p.accepted).not-over);
     }
 
@@ -69,7 +68,7 @@ returns-in_err-read_tags c =
     let told =
     good-beginning a.text.now (ended (goal.at.returns-in_err-read_tags c).After-new-sheet)
     (c.in_err-read_tags.ensures q.image.now (ap (λ n. blocks q.image.now - n) q.rules_are)) in
-    rw (p.1, p.2) (refused _ (tag-fault a.text.now a.list.now q.image.now (length a.output.now) q.accepted c.requires told.fault) a.output.now _)
+    rw (p.1, p.2) (refused _ (tag-fault a.text.now a.names.now.list.now q.image.now (length a.output.now) q.accepted a.names.now.good told.fault) a.output.now _)
 
 pub returns-in-Err-reached : goal.returns-in-Err-reached
 returns-in-Err-reached c =
@@ -77,7 +76,7 @@ returns-in-Err-reached c =
     let p = a.second.now in
     let told = c.in-Err-reached.ensures in
     refused _
-    (form-fault a.text.now a.list.now p.image.now (length a.output.now) p.accepted c.requires
+    (form-fault a.text.now a.names.now.list.now p.image.now (length a.output.now) p.accepted a.names.now.good
     (read (goal.at.returns-in-Err-reached c).In_ok-read_tags).fault told.0
     ∙ ap (λ n. some (refusal 41 n 0)) told.1)
     a.output.now _
@@ -86,7 +85,7 @@ pub write_image-requires : goal.write_image-requires
 write_image-requires c =
     let a = c.args in
     let p = a.second.now in
-    let f = image-fits a.text.now a.list.now p.image.now (length a.output.now) (no-fault (goal.at.write_image-requires c).In_default)
+    let f = image-fits a.text.now a.names.now.list.now p.image.now (length a.output.now) (no-fault (goal.at.write_image-requires c).In_default)
     (read (goal.at.write_image-requires c).In_ok-read_tags) p.rules p.rules_are in
     record { rules_in_bounds = f.0; first_bound = f.1 }
 
@@ -94,5 +93,5 @@ pub returns : goal.returns
 returns c =
     let w = c.write_image in
     let a = c.args in
-    image-read a.text.now a.list.now a.second.now.image.now (length a.output.now) (no-fault (goal.at.returns c).In_default)
+    image-read a.text.now a.names.now.list.now a.second.now.image.now (length a.output.now) (no-fault (goal.at.returns c).In_default)
     (read (goal.at.returns c).In_ok-read_tags) a.output.now w.ensures.0 w.ensures.1

@@ -21,4 +21,4 @@ returns c =
     let x = rw c.from-n.ensures at c.in_ok-second.ensures.was in
     puts-ok x.0
     (told (and_then (and_then c.put_opening-first.ensures x.1) c.put.ensures)
-    (rw c.by_kind.ensures.0 (sym (exclusion-words a.list.now (exclusion_at a.b.now a.e)))) (omega arith))
+    (rw c.by_kind.ensures.0 (sym (exclusion-words a.names.now.list.now (exclusion_at a.b.now a.e)))) (omega arith))

@@ -13,4 +13,4 @@ abbrev pub invariant-loop-i : goal.invariant-loop-i
 invariant-loop-i l =
     (l.i ≤ l.n)
     × ((length l.output ≡ length l.initial.output)
-    × Row most_pair_bytes (λ j. member_text l.list l.kind (privilege_at l.b (l.members + member_bytes * j))) (λ j. member_lost l.list l.kind (privilege_at l.b (l.members + member_bytes * j))) l.initial.output l.initial.at l.i l.output l.at)
+    × Row most_pair_bytes (λ j. member_text l.names.list.now l.kind (privilege_at l.b (l.members + member_bytes * j))) (λ j. member_lost l.names.list.now l.kind (privilege_at l.b (l.members + member_bytes * j))) l.initial.output l.initial.at l.i l.output l.at)

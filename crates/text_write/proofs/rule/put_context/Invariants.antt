@@ -13,4 +13,4 @@ abbrev pub invariant-loop-i : goal.invariant-loop-i
 invariant-loop-i l =
     (l.i ≤ l.depth)
     × ((length l.output ≡ length l.initial.output)
-    × Row most_level_bytes (λ j. comma_text j ++ level_text l.list (level_at l.b j)) (λ j. level_lost l.list (level_at l.b j)) l.initial.output l.initial.at l.i l.output l.at)
+    × Row most_level_bytes (λ j. comma_text j ++ level_text l.names.list.now (level_at l.b j)) (λ j. level_lost l.names.list.now (level_at l.b j)) l.initial.output l.initial.at l.i l.output l.at)

@@ -12,4 +12,4 @@ abbrev pub invariant-loop-e : goal.invariant-loop-e
 invariant-loop-e l =
     (l.e ≤ l.exclusions)
     × ((length l.output ≡ length l.initial.output)
-    × Row most_exclusion_bytes (λ j. exclusion_text l.list (exclusion_at l.b j)) (λ j. exclusion_lost l.list (exclusion_at l.b j)) l.initial.output l.initial.at l.e l.output l.at)
+    × Row most_exclusion_bytes (λ j. exclusion_text l.names.list.now (exclusion_at l.b j)) (λ j. exclusion_lost l.names.list.now (exclusion_at l.b j)) l.initial.output l.initial.at l.e l.output l.at)

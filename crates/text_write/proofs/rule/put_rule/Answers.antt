@@ -33,4 +33,4 @@ returns c =
     let fourth = c.in_ok-fourth.ensures.was in
     let fifth = c.in_ok-fifth.ensures.was in
     let x = and_then (and_then (and_then c.put-first.ensures second.1) c.put-third.ensures) fourth.1 in
-    puts-ok (rw (second.0, fourth.0, fifth.0)) (told (and_then (and_then x fifth.1) c.put.ensures) (rule-words a.list.now (rule_at a.b.now)) (omega arith))
+    puts-ok (rw (second.0, fourth.0, fifth.0)) (told (and_then (and_then x fifth.1) c.put.ensures) (rule-words a.names.now.list.now (rule_at a.b.now)) (omega arith))

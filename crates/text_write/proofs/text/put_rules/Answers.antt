@@ -16,7 +16,7 @@ good c =
     writable p.image.now p.accepted c.loop-k.k (omega (arith, p.rules_are))
 
 pub loop-k-init : goal.loop-k-init
-loop-k-init c = let p = c.args.policy.now in turn-start c.args.list.now p.image.now c.args.output.now c.args.start p.rules p.rules_are
+loop-k-init c = let p = c.args.policy.now in turn-start c.args.names.now.list.now p.image.now c.args.output.now c.args.start p.rules p.rules_are
 
 pub put_rule-requires : goal.put_rule-requires
 put_rule-requires c =
@@ -24,7 +24,7 @@ put_rule-requires c =
     let x = c.loop-k.invariant.row.1 in
     let few = rules-most p.image.now p.accepted in
     record {
-      list_value = (c.requires.0, omega (arith, x.behind, x.few, few, p.rules_are));
+      at_bound = omega (arith, x.behind, x.few, few, p.rules_are);
       writable = rw c.rule-b.ensures (good (goal.at.put_rule-requires c).In-loop-k);
     }
 
@@ -32,7 +32,7 @@ pub returns-in_err-at : goal.returns-in_err-at
 returns-in_err-at c =
     let p = err_from_is_err_and c.from_residual.result c.from_residual.ensures.1 in
     let x = rw c.rule-b.ensures at c.in_err-at.ensures.was in
-    rw (p.1, p.2, x.1) (turn-missing c.args.list.now c.args.policy.now.image.now c.args.output.now c.args.start c.args.policy.now.rules c.loop-k.k c.loop-k.invariant (omega arith) x.0)
+    rw (p.1, p.2, x.1) (turn-missing c.args.names.now.list.now c.args.policy.now.image.now c.args.output.now c.args.start c.args.policy.now.rules c.loop-k.k c.loop-k.invariant (omega arith) x.0)
 
 pub has_range-requires : goal.has_range-requires
 has_range-requires c = let w = good (goal.at.has_range-requires c).In-loop-k in rw c.rule-b.ensures w.depth

@@ -16,7 +16,7 @@ returns-in_err-p c =
     (record {
       fault =
           c.in_err-p.ensures.fault
-          ∙ sym (place-fault a.place t.list.now second t.room s (value_at t.text.now a.operation) (value_at t.text.now a.target));
+          ∙ sym (place-fault a.place t.names.list.now second t.room s (value_at t.text.now a.operation) (value_at t.text.now a.target));
       now = tt;
     })
 
@@ -24,7 +24,7 @@ pub returns : goal.returns
 returns c =
     let a = c.args in
     let t = a.source.now in
-    let l = t.list.now in
+    let l = t.names.list.now in
     let o = value_at t.text.now a.operation in
     let u = value_at t.text.now a.target in
     λ second s h.

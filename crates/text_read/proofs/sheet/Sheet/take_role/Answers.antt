@@ -38,8 +38,8 @@ returns c =
     record {
       fault = rw (← told.fault, ← told.number) (sym (unless-passes (refusal 43 0 0) (le-leb _ 32 c.if-role-gt-HIGHEST_ROLE.false)));
       now =
-          exclusion-now h (with_member s.exclusion (role_of t.list.now v))
+          exclusion-now h (with_member s.exclusion (role_of t.names.list.now v))
           (c.add_role.ensures s.exclusion h.exclusion
           ∙ ap (λ (n : ℕ). exclusion_block (with_member s.exclusion (record { operation = n; target = 0 }))) told.number)
-          (more-fit s.exclusion (role_of t.list.now v) h.members (role-fits t.list.now t.numbers v));
+          (more-fit s.exclusion (role_of t.names.list.now v) h.members (role-fits t.names.list.now t.numbers v));
     }

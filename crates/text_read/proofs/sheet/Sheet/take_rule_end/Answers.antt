@@ -19,7 +19,7 @@ returns-in_err-depth c =
     λ second s h.
     rw (p.1, p.2)
     (record {
-      fault = rule-unlisted t.list.now s.rule (value_at t.text.now c.args.self.now.context) h.context c.in_err-depth.ensures.fault;
+      fault = rule-unlisted t.names.list.now s.rule (value_at t.text.now c.args.self.now.context) h.context c.in_err-depth.ensures.fault;
       now = tt;
     })
 
@@ -29,7 +29,7 @@ returns-in_err-end_rule c =
     let r = c.from_residual-in_err-end_rule in
     let p = err_from_is_err_and r.result r.ensures.1 in
     let t = c.args.source.now in
-    let l = t.list.now in
+    let l = t.names.list.now in
     let v = value_at t.text.now c.args.self.now.context in
     let ps = level_texts v in
     let told = c.in_ok-depth.ensures in
@@ -47,7 +47,7 @@ pub returns : goal.returns
 unfolding tag_fault after_tag
 returns c =
     let t = c.args.source.now in
-    let l = t.list.now in
+    let l = t.names.list.now in
     let v = value_at t.text.now c.args.self.now.context in
     let ps = level_texts v in
     let told = c.in_ok-depth.ensures in

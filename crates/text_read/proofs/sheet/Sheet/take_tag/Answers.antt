@@ -38,7 +38,7 @@ returns-in-StartExclusion c =
 pub returns-in-EndExclusion : goal.returns-in-EndExclusion
 returns-in-EndExclusion c =
     let t = c.args.source.now in
-    λ second s p h. by_kind t.text.now c.in-EndExclusion.is (c.take_exclusion_end.ensures t.text.now t.list.now second t.room s h)
+    λ second s p h. by_kind t.text.now c.in-EndExclusion.is (c.take_exclusion_end.ensures t.text.now t.names.list.now second t.room s h)
 
 pub returns-in-Role : goal.returns-in-Role
 returns-in-Role c = λ second s p h. by_kind c.args.source.now.text.now c.in-Role.is (c.take_role.ensures second s h)

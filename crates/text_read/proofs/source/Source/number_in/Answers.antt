@@ -16,10 +16,10 @@ unfolding listed
 returns-then-n-gt-MOST_NAME_BYTES-clause-fault c =
     let a = c.args in
     let s = a.self.now in
-    rw (too_long s.list.now s.good (name_code a.kind) (value_at s.text.now a.s) (omega (arith, c.squeeze-n.ensures.0))) refl
+    rw (too_long s.names.list.now s.names.good (name_code a.kind) (value_at s.text.now a.s) (omega (arith, c.squeeze-n.ensures.0))) refl
 
 -- what was looked up is the name
-looked-up : (c : After-ok_or) → let a = c.args in number_found c.number_of.result ≡ number_of a.self.now.list.now (name_code a.kind) (value_at a.self.now.text.now a.s)
+looked-up : (c : After-ok_or) → let a = c.args in number_found c.number_of.result ≡ number_of a.self.now.names.list.now (name_code a.kind) (value_at a.self.now.text.now a.s)
 looked-up c =
     let front = laid-front (replicate 60 0) c.squeeze-n.ensures.0 c.squeeze-n.ensures.1 c.if-n-gt-MOST_NAME_BYTES.false in
     rw (front, c.code.ensures) at c.number_of.ensures

@@ -61,7 +61,7 @@ returns-clause-fault c =
 number_is :
     (c : After-put_level)
     → c.match-mark.number
-    ≡ cond (eqb (mark_code c.mark_of-mark.result) 1) (or_zero (number_of c.args.self.now.list.now value_names (value_at c.args.self.now.text.now c.next-value.result))) 0
+    ≡ cond (eqb (mark_code c.mark_of-mark.result) 1) (or_zero (number_of c.args.self.now.names.list.now value_names (value_at c.args.self.now.text.now c.next-value.result))) 0
 number_is c =
     let m = c.mark_of-mark.result in
     elim c.match-mark.branch [
@@ -74,7 +74,7 @@ pub returns-clause-level : goal.returns-clause-level
 returns-clause-level c =
     let a = c.args in
     let t = a.self.now.text.now in
-    let l = a.self.now.list.now in
+    let l = a.self.now.names.list.now in
     let v = c.next-value.result in
     let m = mark_code c.mark_of-mark.result in
     let type = type-text t a.s c.requires.1 c.until-sign.result c.until-sign.ensures.0 in

@@ -11,7 +11,7 @@ pub returns-then-blank : goal.returns-then-blank
 returns-then-blank c =
     let t = c.args.self.now in
     let v = value_at t.text.now c.args.context in
-    let n = taken_none t.list.now v c.args.d.now (eqb-true (length v) 0 (sym c.blank.ensures ∙ c.if-blank.true)) in
+    let n = taken_none t.names.list.now v c.args.d.now (eqb-true (length v) 0 (sym c.blank.ensures ∙ c.if-blank.true)) in
     record { fault = n.0; depth = n.1; levels = n.2 }
 
 pub loop-at-init : goal.loop-at-init
@@ -19,7 +19,7 @@ loop-at-init c =
     let t = c.args.self.now in
     let v = value_at t.text.now c.args.context in (
       omega arith,
-      taken_start t.list.now t.text.now c.args.context c.args.d.now c.requires.0 (eqb-false (length v) 0 (sym c.blank.ensures ∙ c.if-blank.false)),
+      taken_start t.names.list.now t.text.now c.args.context c.args.d.now c.requires.0 (eqb-false (length v) 0 (sym c.blank.ensures ∙ c.if-blank.false)),
     )
 
 pub returns-in_err-read_level-clause-fault : goal.returns-in_err-read_level-clause-fault
@@ -27,7 +27,7 @@ returns-in_err-read_level-clause-fault c =
     let p = err_from_is_err_and c.from_residual.result c.from_residual.ensures.1 in
     let t = c.args.self.now in
     rw (p.1, p.2)
-    (taken-fault t.list.now t.text.now c.args.context c.args.d.now c.loop-at.invariant.1 c.loop-at-test.true c.requires.1 c.until-end.ensures.0
+    (taken-fault t.names.list.now t.text.now c.args.context c.args.d.now c.loop-at.invariant.1 c.loop-at-test.true c.requires.1 c.until-end.ensures.0
     c.until-end.ensures.2 c.in_err-read_level.ensures.fault)
 
 pub loop-at-preserved : goal.loop-at-preserved
@@ -35,12 +35,12 @@ loop-at-preserved c =
     let t = c.args.self.now in
     let told = c.in_ok-read_level.ensures in (
       omega arith,
-      taken_more t.list.now t.text.now c.args.context c.args.d.now c.loop-at.invariant.1 c.loop-at-test.true c.requires.1 c.until-end.ensures.0
+      taken_more t.names.list.now t.text.now c.args.context c.args.d.now c.loop-at.invariant.1 c.loop-at-test.true c.requires.1 c.until-end.ensures.0
           c.until-end.ensures.2 told.fault told.level,
     )
 
 pub returns : goal.returns
 returns c =
     let t = c.args.self.now in
-    let e = taken-end t.list.now t.text.now c.args.context c.args.d.now c.loop-at.invariant.1 c.loop-at-test.false in
+    let e = taken-end t.names.list.now t.text.now c.args.context c.args.d.now c.loop-at.invariant.1 c.loop-at-test.false in
     record { fault = e.0; depth = e.1; levels = e.2 }
