@@ -13,6 +13,7 @@ use Rattle.answers.specs.Code.{outcome}
 
 -- a request that has passed: steps 4 and 5 have what they need, and the decision is what they say
 pub record PassIs (policy table request : List ℕ) (p : Pass) : Type 0 where
+  pub same : p.request.now ≡ request
   pub judged : Judged policy (sums_of p.stamp) p.ending p.gives p.request.now table p.held
   pub near : NearOf p.ending.each p.ending.rules.0 p.request.now table p.held p.ending.near
   pub rest : update_of policy table p.request.now ≡ decide policy table request

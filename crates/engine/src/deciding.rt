@@ -19,15 +19,8 @@ pub fn decide_counted(
 ) -> Result<Counted<Grant>, Refusal>
     ensures { (outcome (granted_of (counted_of result)) table.new ≡ decide_of policy.now table.old request.now) × (written_of result ≡ decided_blocks policy.now table.old request.now) }
 {
-    let pass = examine(policy, table, request)?;
-    update(
-        pass.stamp,
-        pass.ending,
-        pass.gives,
-        pass.request,
-        table,
-        pass.held,
-    )
+    let p = examine(policy, table, request)?;
+    update(p.stamp, p.ending, p.gives, p.request, table, p.held)
 }
 
 // Decides one request. A grant brings the lent table up to date, a refusal leaves every byte.

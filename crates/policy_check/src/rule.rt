@@ -16,7 +16,7 @@ use fields::layout::{
 use fields::privilege;
 use format::answer::Refusal;
 
-// A mark with the value beside it: fixed has one, every and each have none.
+// A mark with the value beside it: fixed has one, every and each have none. The mark is a byte of an image that is still to be judged, and no `Mark`.
 fn good_mark(mark: u8, value: u32) -> bool
     ensures { result ≡ good_mark mark value }
 {
@@ -67,7 +67,7 @@ fn good_levels(b: &[u8; BLOCK_BYTES]) -> bool
 }
 
 // A step: set and full, or neither.
-pub fn good_step(b: &[u8; BLOCK_BYTES], flag: usize, at: usize) -> bool
+pub fn good_step(b: &[u8], flag: usize, at: usize) -> bool
     requires { (flag < length b.now) × (at + 3 < length b.now) }
     ensures { result ≡ good_step (step_at b.now flag at) }
 {

@@ -35,7 +35,7 @@ fn put_answer(answers: &mut [u32], at: usize, answer: SodReply)
     answers[at + 3] = answer.third;
 }
 
-// One call to the engine, of its kind.
+// One call to the engine, of its kind: a number, since `run` promises what a call of any number does.
 fn call(policy: &[u8], table: &mut [u8], kind: u8, bytes: &[u8]) -> SodReply
     ensures { (four_of result ≡ four (call_step policy.now table.old (call_of kind bytes.now)).answer) × (table.new ≡ (call_step policy.now table.old (call_of kind bytes.now)).state) }
 {

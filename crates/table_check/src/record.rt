@@ -38,7 +38,7 @@ fn marks_pass<F: Fn(u32) -> bool>(test: F, marks: RuleSet) -> bool
 }
 
 // The marks of a record whose request is good: each is for a rule of the policy that its context fits.
-fn good_marks(tests: &Tests<'_>, s: &[u8], at: usize) -> bool
+pub fn good_marks(tests: &Tests<'_>, s: &[u8], at: usize) -> bool
     requires { at + record_bytes ≤ length s.now }
     ensures { good_request (part s.now at request_bytes) ≡ true → result ≡ good_marks (policy_of tests.now.policy.image.now) (record_from s.now at) }
 {

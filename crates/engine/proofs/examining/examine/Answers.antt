@@ -61,6 +61,7 @@ returns c =
     let table-good = rw k.ensures.image at (sym c.in_ok-table_fault.ensures) in
     let passes = rw k.ensures.image at (sym (verdict-is _ _ _ _ st _ _ _ is)) in
     record {
+      same = x.ensures.request;
       judged = record {
         accepted = sym k.ensures.fault;
         stamp-is = rw k.ensures.image at k.checked.stamp_is;
