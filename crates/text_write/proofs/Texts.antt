@@ -18,7 +18,7 @@ use Rattle.std.specs.declared.result.Result.TheVariants.{Ok}
 use Rattle.format.specs.declared.answer.TextRefusal.{TextRefusal}
 use Rattle.text_write.specs.Laid.{Lays, Puts}
 use Rattle.text_write.specs.Lost.{name_lost, privilege_lost, step_lost, member_lost, value_lost}
-use Rattle.text_write.specs.Pieces.{most_role_bytes, most_pair_bytes, role_text, pair_text, opening_text, members_text, set_step_text, steps_text, comma_text, exclusions_text}
+use Rattle.text_write.specs.Pieces.{most_role_bytes, most_pair_bytes, role_text, pair_text, opening_text, members_text, members_lost, set_step_text, steps_text, comma_text, exclusions_text}
 use Rattle.text_write.proofs.Laying.{told, puts-ok, retold, lays-nothing}
 
 -- ---- attributes
@@ -71,6 +71,15 @@ module _ (l : List ℕ) (k : ℕ) (p : Privilege) {o o' : List ℕ} {q : ℕ} (r
   privilege-member e x = retold r x (privilege-words l k p e) (rw (ne_eqb k 1 e)) (omega arith)
 
 -- ---- exclusions
+
+-- of a kind, the members' texts and their loss ask only whether it is that of roles
+pub members-alike : (l : List ℕ) (j k : ℕ) (f : ℕ → Privilege) (n : ℕ) → eqb j 1 ≡ eqb k 1 → members_text l j f n ≡ members_text l k f n
+unfolding members_text member_text
+members-alike l j k f n e = rw e
+
+pub lost-alike : (l : List ℕ) (j k : ℕ) (f : ℕ → Privilege) (n : ℕ) → eqb j 1 ≡ eqb k 1 → members_lost l j f n ≡ members_lost l k f n
+unfolding members_lost member_lost
+lost-alike l j k f n e = rw e
 
 -- an end tag is one piece
 closed : (p m a b e : List ℕ) → p ++ m ++ (a ++ b ++ e) ≡ p ++ m ++ a ++ b ++ e

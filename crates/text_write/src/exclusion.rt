@@ -2,7 +2,7 @@
 ghost use Rattle.std.specs.Prelude.{◌≡◌, ◌∷◌, [], true, cond, ◌+◌, ◌*◌, ◌<◌, ◌≤◌, length, eqb};
 ghost use Rattle.format.specs.Layout.{most_exclusions, member_bytes, most_members};
 ghost use Rattle.format.specs.Rule.{privilege_at, exclusion_at};
-ghost use Rattle.fields.specs.Code.{privilege_of};
+ghost use Rattle.fields.specs.Code.{privilege_of, exclusion_code};
 ghost use Rattle.xml.specs.Names.{role_names};
 ghost use Rattle.xml.specs.Write.{member_text, exclusion_text};
 ghost use Rattle.text_write.specs.Words.{most_word_bytes};
@@ -15,6 +15,7 @@ use crate::put::{put, put_name};
 use crate::spelling::{
     ELEMENT_END, PRIVILEGE, PRIVILEGES, PRIVILEGES_END, ROLE, ROLES, ROLES_END, TAG_END, TARGET,
 };
+use fields::kind::ExclusionKind;
 use fields::layout::{
     BLOCK_BYTES, EXCLUSION_BYTES, EXCLUSION_KIND_AT, EXCLUSION_M_AT, EXCLUSION_N_AT, MEMBER_BYTES,
     MEMBERS_AT, OF_ROLES,
@@ -64,16 +65,16 @@ fn put_member(
     output: &mut [u8],
     at: usize,
     names: &Names<'_>,
-    kind: u8,
+    kind: ExclusionKind,
     p: Privilege,
 ) -> Result<usize, TextRefusal>
     requires { at + most_pair_bytes < 4294967296 }
-    ensures { Puts most_pair_bytes output.old at (member_text names.now.list.now kind (privilege_of p)) (member_lost names.now.list.now kind (privilege_of p)) output.new result }
+    ensures { Puts most_pair_bytes output.old at (member_text names.now.list.now (exclusion_code kind) (privilege_of p)) (member_lost names.now.list.now (exclusion_code kind) (privilege_of p)) output.new result }
 {
-    if kind == OF_ROLES {
-        return put_role(output, at, names, p.operation.0);
+    match kind {
+        ExclusionKind::Roles => put_role(output, at, names, p.operation.0),
+        ExclusionKind::Privileges => put_pair(output, at, names, PRIVILEGE, TARGET, p),
     }
-    put_pair(output, at, names, PRIVILEGE, TARGET, p)
 }
 
 // The n members that stand from a byte of the block on.
@@ -81,14 +82,14 @@ fn put_members(
     output: &mut [u8],
     start: usize,
     names: &Names<'_>,
-    kind: u8,
+    kind: ExclusionKind,
     b: &[u8; BLOCK_BYTES],
     members: usize,
     n: usize,
 ) -> Result<usize, TextRefusal>
     requires start_bound { start + most_members_bytes < 4294967296 }
     requires n_le_most_members { (n ≤ most_members) × (members + member_bytes * most_members ≤ length b.now) }
-    ensures { Puts most_members_bytes output.old start (members_text names.now.list.now kind (λ i. privilege_at b.now (members + member_bytes * i)) n) (members_lost names.now.list.now kind (λ i. privilege_at b.now (members + member_bytes * i)) n) output.new result }
+    ensures { Puts most_members_bytes output.old start (members_text names.now.list.now (exclusion_code kind) (λ i. privilege_at b.now (members + member_bytes * i)) n) (members_lost names.now.list.now (exclusion_code kind) (λ i. privilege_at b.now (members + member_bytes * i)) n) output.new result }
 {
     let mut at = start;
     for i in 0..n {
@@ -99,21 +100,35 @@ fn put_members(
 }
 
 // One of two fixed pieces: that of roles, or that of privileges.
-fn by_kind<'a>(kind: u8, roles: &'a [u8], privileges: &'a [u8]) -> &'a [u8]
+fn by_kind<'a>(kind: ExclusionKind, roles: &'a [u8], privileges: &'a [u8]) -> &'a [u8]
     requires { (length roles.now ≤ most_word_bytes) × (length privileges.now ≤ most_word_bytes) }
-    ensures { (result.now ≡ cond (eqb kind 1) roles.now privileges.now) × (length result.now ≤ most_word_bytes) }
+    ensures { (result.now ≡ cond (eqb (exclusion_code kind) 1) roles.now privileges.now) × (length result.now ≤ most_word_bytes) }
 {
-    if kind == OF_ROLES { roles } else { privileges }
+    match kind {
+        ExclusionKind::Roles => roles,
+        ExclusionKind::Privileges => privileges,
+    }
 }
 
 // The start of an exclusion, with m as one digit.
-fn put_opening(output: &mut [u8], at: usize, kind: u8, m: u8) -> usize
+fn put_opening(output: &mut [u8], at: usize, kind: ExclusionKind, m: u8) -> usize
     requires { (m < 10) × (at + most_opening_bytes < 4294967296) }
-    ensures { Lays most_opening_bytes output.old at (opening_text kind m) output.new result }
+    ensures { Lays most_opening_bytes output.old at (opening_text (exclusion_code kind) m) output.new result }
 {
     let first = put(output, at, by_kind(kind, ROLES, PRIVILEGES));
     let second = put(output, first, &[b'0' + m]);
     put(output, second, TAG_END)
+}
+
+// The kind of an exclusion by its byte, of which the text asks only whether it is that of roles.
+fn kind_of(byte: u8) -> ExclusionKind
+    ensures { eqb (exclusion_code result) 1 ≡ eqb byte 1 }
+{
+    if byte == OF_ROLES {
+        ExclusionKind::Roles
+    } else {
+        ExclusionKind::Privileges
+    }
 }
 
 // Exclusion e of a rule's block.
@@ -129,7 +144,7 @@ pub fn put_exclusion(
     ensures { Puts most_exclusion_bytes output.old at (exclusion_text names.now.list.now (exclusion_at b.now e)) (exclusion_lost names.now.list.now (exclusion_at b.now e)) output.new result }
 {
     let begin = EXCLUSION_BYTES * e;
-    let kind = b[EXCLUSION_KIND_AT + begin];
+    let kind = kind_of(b[EXCLUSION_KIND_AT + begin]);
     let n = usize::from(b[EXCLUSION_N_AT + begin]);
     let first = put_opening(output, at, kind, b[EXCLUSION_M_AT + begin]);
     let second = put_members(output, first, names, kind, b, MEMBERS_AT + begin, n)?;

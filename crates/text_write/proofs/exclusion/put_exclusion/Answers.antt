@@ -1,10 +1,10 @@
 use native.Mathlib.Omega.{arith}
-use mathlib.Core.Path.{sym}
+use mathlib.Core.Path.{sym, ◌∙◌}
 use Rattle.forms.specs.Form.{ascii}
 use Rattle.format.specs.Rule.{exclusion_at}
 use Rattle.text_write.specs.Lost.{exclusion_lost}
 use Rattle.text_write.specs.Pieces.{members_lost}
-use Rattle.text_write.proofs.Texts.{exclusion-words}
+use Rattle.text_write.proofs.Texts.{exclusion-words, members-alike, lost-alike}
 use Rattle.text_write.proofs.Laying.{and_then, told, puts-ok, refused}
 use Rattle.text_write.proofs.exclusion.put_exclusion.Goals as goal
 
@@ -12,13 +12,19 @@ pub returns-in_err-second : goal.returns-in_err-second
 unfolding exclusion_lost members_lost
 returns-in_err-second c =
     let x = rw c.from-n.ensures at c.in_err-second.ensures.was in
-    refused c.from_residual.result c.from_residual.ensures.1 x.0 x.1
+    let a = c.args in
+    let e = exclusion_at a.b.now a.e in
+    let lost = lost-alike a.names.now.list.now _ _ e.member e.n c.kind_of-kind.ensures in
+    refused c.from_residual.result c.from_residual.ensures.1 (sym lost ∙ x.0) x.1
 
 pub returns : goal.returns
 unfolding exclusion_lost members_lost ascii
 returns c =
     let a = c.args in
     let x = rw c.from-n.ensures at c.in_ok-second.ensures.was in
-    puts-ok x.0
+    let l = a.names.now.list.now in
+    let e = exclusion_at a.b.now a.e in
+    let same = c.kind_of-kind.ensures in
+    puts-ok (sym (lost-alike l _ _ e.member e.n same) ∙ x.0)
     (told (and_then (and_then c.put_opening-first.ensures x.1) c.put.ensures)
-    (rw c.by_kind.ensures.0 (sym (exclusion-words a.names.now.list.now (exclusion_at a.b.now a.e)))) (omega arith))
+    (rw (c.by_kind.ensures.0, same, members-alike l _ _ e.member e.n same) (sym (exclusion-words l e))) (omega arith))
