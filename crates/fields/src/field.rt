@@ -4,14 +4,14 @@ ghost use Rattle.std.proofs.lemmas.List.Edits.{sets};
 ghost use Rattle.std.specs.Int.Bits.{bit_and};
 ghost use Rattle.words.specs.Bytes.{u16_at, u32_at, bytes2, bytes4, zero_from, bit as bit_of};
 
-// A byte as a wider number. Beside the library's `u32::from` it says that this is below 256, which the sums below need.
+// A byte as a wider number.
 pub fn wide(x: u8) -> u32
     ensures { (result ≡ x) × (result < 256) }
 {
     x as u32
 }
 
-// The field of 2 bytes at a byte. One function for each width: the sums stand as the definitions have them, and a loop over bytes would be no plainer.
+// The field of 2 bytes at a byte.
 pub fn u16_at(s: &[u8], at: usize) -> u32
     requires { at + 1 < length s.now }
     ensures { (result ≡ u16_at s.now at) × (result < 65536) }

@@ -44,7 +44,7 @@ impl Privilege {
         }
     }
 
-    // Both numbers are from 1. (No comparison of two values: what is asked is zero or not.)
+    // Both numbers are from 1.
     pub fn full(self) -> bool
         ensures { result ≡ full_privilege (privilege_of self) }
     {

@@ -25,6 +25,6 @@ pub extern "C" fn sod_probe_close(policy: &[u8], table: &mut [u8], context: &[u8
 {
     match close_counted(policy, table, context) {
         Ok(counted) => counted.written,
-        Err(_) => 0,
+        Err(_refusal) => 0,
     }
 }
