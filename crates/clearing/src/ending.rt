@@ -1,6 +1,6 @@
 // What a grant takes from the marks of records: the rules that end, and where their records are.
-ghost use Rattle.std.specs.Prelude.{◌≡◌, ◌+◌, ◌*◌, ◌<◌, ◌≤◌, min, length};
-ghost use Rattle.format.specs.Layout.{record_bytes, block_records, table_blocks};
+ghost use Rattle.std.specs.Prelude.{◌≡◌, ℕ, ◌+◌, ◌*◌, ◌/◌, ◌<◌, ◌≤◌, min, length};
+ghost use Rattle.format.specs.Layout.{record_bytes, block_records, table_blocks, capacity};
 ghost use Rattle.format.specs.Records.{record_from};
 ghost use Rattle.clearing.specs.Cleared.{cleared_by};
 
@@ -27,10 +27,10 @@ pub fn cleared_marks(ending: Ending, q: &[u8; REQUEST_BYTES], table: &[u8], at: 
     request::marks(table, at).without(together_of(ending.each, ending.rules, q, table, at))
 }
 
-// The place behind those of block k, of n places.
-pub fn block_end(k: usize, n: usize) -> usize
-    requires { k < table_blocks }
-    ensures { result ≡ min n (block_records * (k + 1)) }
+// The place behind the block of place i, or n.
+pub fn block_end(i: usize, n: usize) -> usize
+    requires { (i < n) × (n ≤ capacity table_blocks) }
+    ensures { (i < result) × (result ≤ n) × ((k : ℕ) → i ≤ k → k < result → k / block_records ≡ i / block_records) × (result ≡ min n (block_records * (i / block_records + 1))) }
 {
-    n.min(Blocks::RECORDS * (k + 1))
+    n.min(Blocks::RECORDS * (i / Blocks::RECORDS + 1))
 }

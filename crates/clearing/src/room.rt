@@ -36,7 +36,7 @@ fn kept(ending: Ending, q: &[u8; REQUEST_BYTES], table: &[u8], n: usize) -> usiz
     let mut count = 0usize;
     for k in 0..n.div_ceil(Blocks::RECORDS) {
         let from = Blocks::RECORDS * k;
-        let to = block_end(k, n);
+        let to = block_end(from, n);
         if ending.near.has(k) {
             count += kept_between(ending, q, table, from, to);
         } else {

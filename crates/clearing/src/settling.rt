@@ -77,7 +77,7 @@ pub fn settle_records<F: Fate>(
 }
 
 // Records that stay as they are, from one place up to another: they are put behind those before them that have stayed, if one has gone.
-fn pass_records(table: &mut [u8], from: usize, to: usize, left: Settled) -> Settled
+pub fn pass_records(table: &mut [u8], from: usize, to: usize, left: Settled) -> Settled
     requires { (left.held ≤ from) × (from ≤ to) × (HasRoom table.old to) }
     ensures { ((rest : List Record → List Record) (s : List ℕ) → StayIn rest s from to → Settling rest s from table.old left.held left.changed → Settling rest s to table.new result.held result.changed) × (result.held ≤ to) }
 {
@@ -131,7 +131,7 @@ pub fn settle(ending: Ending, q: &[u8; REQUEST_BYTES], table: &mut [u8], n: usiz
     };
     for k in 0..n.div_ceil(Blocks::RECORDS) {
         let from = Blocks::RECORDS * k;
-        let to = block_end(k, n);
+        let to = block_end(from, n);
         if ending.near.has(k) {
             settled = settle_records(&clearing, table, from, to, settled);
         } else {

@@ -1,6 +1,7 @@
 -- The records that a closing leaves, record by record; and a level of a context and of a request, compared as words.
 -- Assumes nothing.
 use Prim.Native.Nat.{ℕ, ◌+◌, ◌*◌, ◌<◌, ◌≤◌}
+use native.Mathlib.Decide.{dec_lt}
 use native.Mathlib.Omega.{arith}
 use mathlib.Core.Path.{◌≡◌, refl, sym, ap, ap₂, ◌∙◌}
 use mathlib.Core.Bool.{Bool, true, false, cond, not, ◌&&◌}
@@ -43,11 +44,28 @@ module _ (c : List ℕ) where
   unfolding closed closed_out
   closed-split rs = keep-split (λ (x : Record). begins c x.request) rs
 
-  -- a record that is not named stays as it is, where it was
+  -- no record is named before i, and record i is not
+  pub named_more :
+      (t : List ℕ) (from i : ℕ) → ((k : ℕ) → from ≤ k → k < i → begins c (record_here t k).request ≡ false)
+      → begins c (record_here t i).request ≡ false → (k : ℕ) → from ≤ k → k < i + 1 → begins c (record_here t k).request ≡ false
+  named_more t from i before not k lo hi = go (dec_lt k i)
+    where
+      go : Dec (k < i) → begins c (record_here t k).request ≡ false
+      go (yes h) = before k lo h
+      go (no h) = let e : k ≡ i = omega arith in rw e not
+
+  -- ---- between two that it names: a record that has not been come to is where it was
+
   module _ {s : List ℕ} {i : ℕ} {t : List ℕ} {j : ℕ} {set : BlockSet} (w : Settling (closed c) s i t j set) where
     pub closed-stay : (from to : ℕ) → i ≤ from → ((k : ℕ) → from ≤ k → k < to → begins c (record_here t k).request ≡ false) → StayIn (closed c) s from to
     closed-stay from to behind out k lo hi =
         closed-one (record_here s k) (ap (λ (r : Record). begins c r.request) (sym (w.placed.behind k (omega (arith, w.few)))) ∙ out k lo hi)
+
+    pub still-named :
+        {e : ℕ} {t' : List ℕ} {j' : ℕ} {set' : BlockSet} → Settling (closed c) s e t' j' set' → i ≤ e
+        → begins c (record_here t e).request ≡ true → begins c (record_here t' e).request ≡ true
+    still-named {e} v lo is =
+        ap (λ (r : Record). begins c r.request) (v.placed.behind e v.few ∙ sym (w.placed.behind e (omega (arith, w.few)))) ∙ is
 
 -- ---- a level
 

@@ -1,5 +1,5 @@
 // What a closing leaves of a table's records: those whose context begins with the levels that it names go, "Other records keep the marks they had."
-ghost use Rattle.std.specs.Prelude.{◌≡◌, false, ℕ, ◌+◌, ◌<◌, ◌≤◌, length};
+ghost use Rattle.std.specs.Prelude.{◌≡◌, true, false, ℕ, ◌+◌, ◌<◌, ◌≤◌, length};
 ghost use Rattle.words.specs.Bytes.{part};
 ghost use Rattle.format.specs.Layout.{request_bytes, most_levels};
 ghost use Rattle.format.specs.Request.{context_of, depth_of};
@@ -9,12 +9,10 @@ ghost use Rattle.judge.specs.Close.{closed};
 ghost use Rattle.fields.specs.Code.{HasRoom};
 ghost use Rattle.table_write.specs.Writing.{Placed};
 
-use clearing::settling::{Fate, Settled, settle_records};
+use clearing::settling::{Settled, pass_records};
 use fields::blocks::BlockSet;
 use fields::field::u32_at;
 use fields::layout::{CONTEXT_AT, CONTEXT_BYTES, CONTEXT_LEVEL_BYTES};
-use fields::request;
-use fields::sets::RuleSet;
 use fields::tables::record_start;
 use request_check::context::depth;
 
@@ -36,12 +34,19 @@ fn begins(context: &[u8; CONTEXT_BYTES], levels: u32, s: &[u8], at: usize) -> bo
     (0..levels).all(|i| same_level(context, s, at, i))
 }
 
-// The first place of a record that the context names, below n; n, if it names none.
-fn first_named(context: &[u8; CONTEXT_BYTES], levels: u32, table: &[u8], n: usize) -> usize
-    requires { (levels ≡ depth_of context.now) × (HasRoom table.now n) }
-    ensures { (result ≤ n) × ((k : ℕ) → k < result → begins_of context.now (record_here table.now k).request ≡ false) }
+// The first place from one on, below n, of a record that the context names; n, if it names none of them.
+fn named_from(
+    context: &[u8; CONTEXT_BYTES],
+    levels: u32,
+    table: &[u8],
+    from: usize,
+    n: usize,
+) -> usize
+    requires levels_value { levels ≡ depth_of context.now }
+    requires from_le_n { (from ≤ n) × (HasRoom table.now n) }
+    ensures { (from ≤ result) × (result ≤ n) × ((k : ℕ) → from ≤ k → k < result → begins_of context.now (record_here table.now k).request ≡ false) × (result < n → begins_of context.now (record_here table.now result).request ≡ true) }
 {
-    for i in 0..n {
+    for i in from..n {
         if begins(context, levels, table, record_start(i)) {
             return i;
         }
@@ -49,39 +54,23 @@ fn first_named(context: &[u8; CONTEXT_BYTES], levels: u32, table: &[u8], n: usiz
     n
 }
 
-// A context that is closed, and how many levels it uses: a record that it names goes.
-#[derive(Clone, Copy)]
-struct Closing<'a> {
-    context: &'a [u8; CONTEXT_BYTES],
-    levels: u32,
-
-    ghost used: { levels ≡ depth_of context.now },
-}
-
-impl Fate for Closing<'_> {
-    ghost left = { λ c. closed c.context.now };
-
-    fn marks_left(&self, table: &[u8], at: usize) -> Option<RuleSet> {
-        let context = self.context;
-        if begins(context, self.levels, table, at) {
-            return None;
-        }
-        Some(request::marks(table, at))
-    }
-}
-
-// Moves the records that the context does not name to the front, in their order and with their marks. Those in front of the first that it names stay where
-// they are, and are not settled.
+// Moves the records that the context does not name to the front, in their order and with their marks: those between two that it names at once. Nothing
+// is moved before one has gone. (A record by itself, by the trait `Fate`, took 1.2 times as long.)
 pub fn close_records(context: &[u8; CONTEXT_BYTES], table: &mut [u8], n: usize) -> Settled
     requires { HasRoom table.old n }
     ensures { (records_here table.new result.held ≡ closed context.now (records_here table.old n)) × (Placed table.old table.new result.held result.changed) }
 {
     let levels = depth(context, 0);
-    let closing = Closing { context, levels };
-    let first = first_named(context, levels, table, n);
-    let start = Settled {
-        held: first,
+    let mut i = named_from(context, levels, table, 0, n);
+    let mut settled = Settled {
+        held: i,
         changed: BlockSet::none(),
     };
-    settle_records(&closing, table, first, n, start)
+    while i < n {
+        let next = i + 1;
+        let end = named_from(context, levels, table, next, n);
+        settled = pass_records(table, next, end, settled);
+        i = end;
+    }
+    settled
 }

@@ -32,7 +32,7 @@ fn put_numbers(block: &mut [u8; BLOCK_BYTES], total: usize, k: usize, count: usi
 }
 
 // Zeros n bytes.
-fn zero_fill(s: &mut [u8], at: usize, n: usize)
+pub fn zero_fill(s: &mut [u8], at: usize, n: usize)
     requires { at + n ≤ length s.old }
     ensures { s.new ≡ over s.old at n (zeros n) }
 {
@@ -111,11 +111,10 @@ pub fn seal_blocks(table: &mut [u8], stamp: Sum, n: usize, changed: BlockSet) ->
     let total = table.len() / BLOCK_BYTES;
     let mut written = 0usize;
     for k in 0..total {
-        if !changed.has(k) {
-            continue;
+        if changed.has(k) {
+            seal_block(table, stamp, total, k, records_in(n, k));
+            written += 1;
         }
-        seal_block(table, stamp, total, k, records_in(n, k));
-        written += 1;
     }
     written
 }

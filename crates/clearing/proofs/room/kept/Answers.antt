@@ -33,7 +33,7 @@ overflow_add-count c =
     let e : min a.n (15 * l.k) ≡ 15 * l.k = omega arith in
     let to = c.block_end-to.result in
     let few = left-few a.ending.each a.q.now a.ending.rules.0 (records_here a.table.now to) in
-    record { fits = omega (arith, rw e at l.invariant, c.kept_between-count.ensures, few, length-here a.table.now to, c.block_end-to.ensures, c.requires.room.few, c.requires.room.most) }
+    record { fits = omega (arith, rw e at l.invariant, c.kept_between-count.ensures, few, length-here a.table.now to, c.block_end-to.ensures.3, c.requires.room.few, c.requires.room.most) }
 
 pub overflow_add-count-else-has : goal.overflow_add-count-else-has
 overflow_add-count-else-has c =
@@ -41,7 +41,7 @@ overflow_add-count-else-has c =
     let l = c.loop-k in
     let at = min a.n (15 * l.k) in
     let few = left-few a.ending.each a.q.now a.ending.rules.0 (records_here a.table.now at) in
-    record { fits = omega (arith, l.invariant, few, length-here a.table.now at, c.block_end-to.ensures, c.requires.room.few, c.requires.room.most) }
+    record { fits = omega (arith, l.invariant, few, length-here a.table.now at, c.block_end-to.ensures.3, c.requires.room.few, c.requires.room.most) }
 
 pub loop-k-preserved : goal.loop-k-preserved
 loop-k-preserved c =
@@ -50,8 +50,9 @@ loop-k-preserved c =
     let to = c.block_end-to.result in
     let e : min a.n (15 * l.k) ≡ 15 * l.k = omega arith in
     let here = rw e at l.invariant in
+    let end : c.block_end-to.result ≡ min a.n (15 * (l.k + 1)) = omega (arith, c.block_end-to.ensures.3) in
     elim c.if-has.branch [
-      | then-has w ↦ rw (w.count-is, ← c.block_end-to.ensures) (ap (λ (x : ℕ). x + w.kept_between-count.result) here ∙ sym w.kept_between-count.ensures)
+      | then-has w ↦ rw (w.count-is, ← end) (ap (λ (x : ℕ). x + w.kept_between-count.result) here ∙ sym w.kept_between-count.ensures)
       | else-has w ↦
           let d : 15 * l.k + (to - 15 * l.k) ≡ to = omega arith in
           let off = sym c.has.ensures ∙ w.if-has.false in
@@ -59,5 +60,5 @@ loop-k-preserved c =
           left-count a.table.now a.n c.requires.marked a.ending.each a.q.now a.ending.rules.0 a.ending.near c.requires.near
           (15 * l.k) (to - 15 * l.k) (omega arith)
           (λ k lo hi. let b : k / 15 ≡ l.k = omega arith in ap (has_block a.ending.near) b ∙ off) in
-          rw (w.count-is, ← c.block_end-to.ensures) (ap (λ (x : ℕ). x + (to - 15 * l.k)) here ∙ sym (rw d at more))
+          rw (w.count-is, ← end) (ap (λ (x : ℕ). x + (to - 15 * l.k)) here ∙ sym (rw d at more))
     ]

@@ -1,4 +1,4 @@
-use Prim.Native.Nat.{◌*◌, ◌/◌, min}
+use Prim.Native.Nat.{◌+◌, ◌*◌, ◌/◌, min}
 use native.Mathlib.Omega.{arith}
 use mathlib.Core.Path.{◌≡◌, sym, ap, ◌∙◌}
 use borrow.Author.Tests.{eqb-true}
@@ -26,13 +26,14 @@ pub loop-k-preserved : goal.loop-k-preserved
 loop-k-preserved c =
     let a = c.args in
     let l = c.loop-k in
+    let end : c.block_end-to.result ≡ min a.n (15 * (l.k + 1)) = omega (arith, c.block_end-to.ensures.3) in
     let e : min a.n (15 * l.k) ≡ 15 * l.k = omega arith in
     let here = rw e at l.invariant in
     elim c.if-has.branch [
-      | then-has w ↦ rw (w.table-is, w.settled-is, ← c.block_end-to.ensures) (w.settle_records-settled.ensures.0 a.table.now here)
+      | then-has w ↦ rw (w.table-is, w.settled-is, ← end) (w.settle_records-settled.ensures.0 a.table.now here)
       | else-has w ↦
           let off = sym c.has.ensures ∙ w.if-has.false in
-          rw (w.table-is, w.settled-is, ← c.block_end-to.ensures)
+          rw (w.table-is, w.settled-is, ← end)
           (w.pass_records-settled.ensures.0 (left_of a.ending a.q.now) a.table.now
           (λ k lo hi.
           let d : k / 15 ≡ l.k = omega arith in

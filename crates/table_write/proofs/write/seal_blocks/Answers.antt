@@ -7,16 +7,11 @@ use Rattle.format.specs.Block.{blocks, block}
 use Rattle.format.specs.Table.{record_at, block_image}
 use Rattle.table_write.specs.Writing.{over}
 use Rattle.table_write.proofs.TableWritten.{start, skip, more, done, size-start, size-most, size-skip, size-more}
+use Rattle.table_write.proofs.write.seal_blocks.Goals.{then-has, else-has}
 use Rattle.table_write.proofs.write.seal_blocks.Goals as goal
 
 pub loop-k-init : goal.loop-k-init
 loop-k-init c = let a = c.args in (omega arith, start (sums_of a.stamp) a.table.now a.n, size-start a.changed)
-
-pub loop-k-preserved-then-not-has : goal.loop-k-preserved-then-not-has
-loop-k-preserved-then-not-has c =
-    let l = c.loop-k in
-    let off = sym c.has.ensures ∙ c.if-not-has.true in
-    (omega arith, skip l.invariant.1 (omega arith) c.requires.image_but off, size-skip c.args.changed l.k l.invariant.2 off)
 
 pub overflow_add-written : goal.overflow_add-written
 overflow_add-written c =
@@ -27,15 +22,22 @@ overflow_add-written c =
 pub loop-k-preserved : goal.loop-k-preserved
 loop-k-preserved c =
     let l = c.loop-k in
-    let a = c.args in (
-      omega arith,
-      more l.invariant.1 (omega arith) (omega arith)
-          (c.seal_block.ensures
-          ∙ ap (λ m. over l.table (512 * l.k) 512 (block_image (sums_of a.stamp) (blocks a.table.now) l.k (tab (record_at (block l.table l.k)) 0 m)))
-          c.records_in.ensures)
-          c.seal_block.auto.table,
-      size-more a.changed l.k l.invariant.2 (sym c.has.ensures ∙ c.if-not-has.false),
-    )
+    let a = c.args in
+    elim c.if-has.branch [
+      | then-has w ↦
+          rw (w.table-is, w.written-is) (
+            omega arith,
+            more l.invariant.1 (omega arith) (omega arith)
+                (w.seal_block.ensures
+                ∙ ap (λ m. over l.table (512 * l.k) 512 (block_image (sums_of a.stamp) (blocks a.table.now) l.k (tab (record_at (block l.table l.k)) 0 m)))
+                w.records_in.ensures)
+                w.seal_block.auto.table,
+            size-more a.changed l.k l.invariant.2 (sym c.has.ensures ∙ w.if-has.true),
+          )
+      | else-has w ↦
+          let off = sym c.has.ensures ∙ w.if-has.false in
+          rw (w.table-is, w.written-is) (omega arith, skip l.invariant.1 (omega arith) c.requires.image_but off, size-skip a.changed l.k l.invariant.2 off)
+    ]
 
 pub shape_of-table : goal.shape_of-table
 shape_of-table c = c.loop-k.invariant.1.long
