@@ -9,7 +9,7 @@ use Rattle.std.specs.Result.{result_unwrap_or}
 use Rattle.std.proofs.lemmas.Result.{OkIff-at_ok, OkIff-at_err}
 use Rattle.answers.specs.Numbers.{Four, narrow, narrowed}
 
-above : (n : ℕ) → 4294967295 < n → 4294967295 ≡ narrow n
+pub above : (n : ℕ) → 4294967295 < n → 4294967295 ≡ narrow n
 unfolding narrow
 above n h = rw (lt-leb n 4294967295 h)
 
@@ -25,3 +25,8 @@ narrow-or {E} (Err e) n h = let p = OkIff-at_err {T = ℕ} {E = E} (Err e) (n < 
 -- an answer whose first number 32 bits have
 pub narrow_none : (f : Four) → f.first < 4294967296 → f ≡ narrowed f
 narrow_none f h = ap (λ (x : ℕ). record { number = f.number; first = x; second = f.second; third = f.third }) (within f.first (omega (arith, h)))
+
+-- an answer with its first number in 32 bits
+pub narrow-first : (number first first' second : ℕ) → first' ≡ narrow first
+    → ◌≡◌ {A = Four} (record { number = number; first = first'; second = second; third = 0 }) (narrowed (record { number = number; first = first; second = second; third = 0 }))
+narrow-first number first first' second e = ap (λ (x : ℕ). record { number = number; first = x; second = second; third = 0 }) e

@@ -16,9 +16,13 @@ use Rattle.word_laws.proofs.Tests.{neither-first, neither-second}
 use Rattle.fields.specs.declared.blocks.BlockSet.{BlockSet}
 use Rattle.fields.specs.Code.{has_block, no_block}
 
-pub no-block : (k : ℕ) → has_block no_block k ≡ false
+-- a set with no bit has no block
+pub has-none : (set : BlockSet) (k : ℕ) → eqb set.0 0 ≡ true → has_block set k ≡ false
 unfolding has_block
-no-block k = bit-none k
+has-none set k h = rw (eqb-true set.0 0 h) (bit-none k)
+
+pub no-block : (k : ℕ) → has_block no_block k ≡ false
+no-block k = has-none no_block k refl
 
 -- the number with one bit, as the code makes it
 pub power : (k : ℕ) → k < 64 → 1 * 2 ^ k % 2 ^ 64 ≡ 2 ^ k

@@ -11,7 +11,7 @@ use lib.Dec.{eqb, leb}
 use borrow.Author.Tests.{leb-true, eqb-false}
 use Rattle.words.specs.Lists.{all_below}
 use Rattle.words.specs.Bytes.{byte_at}
-use Rattle.word_laws.proofs.Tests.{both_first, both-second, all_below-at}
+use Rattle.word_laws.proofs.Tests.{both_first, both-second, below_suc, all_below-at}
 use Rattle.xml.specs.Names.{entry_bytes, most_names, most_name_bytes, type_names, target_names, names, length_of, name_in, good_name, apart, good_names}
 use Rattle.names.specs.Parts.{good_bytes, new_name, good_at}
 use Rattle.names.proofs.Apart.{two-numbers, two-texts}
@@ -53,6 +53,12 @@ good-entry l i good =
     go true true true true false false p q r s t u h = absurd (false≢true h)
 
 -- ---- a good list
+
+-- entries that are good one after the other have names of at most 60 bytes
+pub lengths-to : (l : List ℕ) (i : ℕ) → all_below i (good_at l) ≡ true → good_name l i ≡ true → (j : ℕ) → j ≤ i → length_of l j ≤ most_name_bytes
+lengths-to l i before here j h =
+    below_suc (λ m. length_of l m ≤ 60) i j (omega arith)
+    (λ b. (good-entry l j (both_first (good_name l j) (new_name l j) (all_below-at i j (good_at l) before b))).length_to) (good-entry l i here).length_to
 
 module _ (l : List ℕ) (good : good_names l ≡ true) where
   entries : all_below (names l) (good_at l) ≡ true

@@ -1,10 +1,11 @@
 -- Names as lists of bytes, and two of them compared: by length first, then byte by byte.
 -- Assumes nothing.
-use Prim.Native.Nat.{ℕ, ◌+◌, ◌-◌, ◌≤◌}
+use Prim.Native.Nat.{ℕ, ◌+◌, ◌-◌, ◌≤◌, ◌<◌}
 use native.Mathlib.Omega.{arith}
 use mathlib.Core.Path.{◌≡◌, refl, sym, ap, ap₂, ◌∙◌}
 use mathlib.Core.Bool.{Bool, true, false}
 use mathlib.Core.List.{List}
+use borrow.Author.Tests.{ne_eqb}
 use lib.ListN.{length, get_or, drop, length-drop}
 use lib.Seq.{get_or-drop}
 use lib.Dec.{eqb}
@@ -12,6 +13,7 @@ use Rattle.std.specs.List.{slice_get}
 use Rattle.words.specs.Lists.{all_below, tab, same_list}
 use Rattle.words.specs.Bytes.{part}
 use Rattle.word_laws.proofs.Lists.{tab-get_d, tab-cong}
+use Rattle.word_laws.proofs.Tests.{all_below-fails}
 use Rattle.word_laws.proofs.Same.{same-eq, same-tabs}
 use Rattle.word_laws.proofs.Parts.{part-whole}
 
@@ -46,3 +48,24 @@ module _ (a b : List ℕ) where
 
   pub other_last : (slice_get a (length a - 1) ≡ slice_get b (length b - 1) → ⊥) → same_list a b ≡ false
   other_last = apart_by (λ (s : List ℕ). slice_get s (length s - 1))
+
+-- ---- parts of byte strings
+
+module _ (a b : List ℕ) (at from : ℕ) where
+  -- parts of one length are the same where each byte is
+  pub same_parts : (n : ℕ) → at + n ≤ length a → from + n ≤ length b
+      → same_list (part a at n) (part b from n) ≡ all_below n (λ i. eqb (get_or a (at + i) 0) (get_or b (from + i) 0))
+  same_parts n h k =
+      ap₂ same_list (sym (part-by-index a at n h)) (sym (part-by-index b from n k))
+      ∙ same-tabs (λ i. get_or a (at + i) 0) (λ i. get_or b (from + i) 0) n
+
+  -- parts of no byte are
+  pub no_bytes : (n : ℕ) → n ≡ 0 → true ≡ same_list (part a at n) (part b from n)
+  unfolding same_list
+  no_bytes n e = rw e
+
+  -- parts that differ in a byte are not
+  pub other_byte : (n : ℕ) → at + n ≤ length a → from + n ≤ length b → (i : ℕ) → i < n → (get_or a (at + i) 0 ≡ get_or b (from + i) 0 → ⊥)
+      → false ≡ same_list (part a at n) (part b from n)
+  other_byte n h k i below differ =
+      all_below-fails n i (λ j. eqb (get_or a (at + j) 0) (get_or b (from + j) 0)) below (ne_eqb _ _ differ) ∙ sym (same_parts n h k)

@@ -22,6 +22,10 @@ good_bytes l i = all_below most_name_bytes (good_byte_at l i)
 abbrev pub new_name : List ℕ → ℕ → Bool
 new_name l i = all_below i (λ j. apart (name_in l j) (name_in l i))
 
+-- n entries from one on are each good by themselves, and each apart from those before it
+abbrev pub good_part : List ℕ → ℕ → ℕ → Bool
+good_part l from n = all_below n (λ k. good_name l (from + k)) && all_below n (λ k. new_name l (from + k))
+
 -- entry i is good by itself and beside those before it
 abbrev pub good_at : List ℕ → ℕ → Bool
 good_at l i = good_name l i && new_name l i

@@ -1,9 +1,10 @@
 // The check of a list of names.
-ghost use Rattle.std.specs.Prelude.{◌≡◌, true, ℕ, ◌<◌, ◌≤◌, IfOk};
+ghost use Rattle.std.specs.Prelude.{◌≡◌, true, ℕ, ◌+◌, ◌<◌, ◌≤◌, IfOk};
+ghost use Rattle.words.specs.Lists.{all_below};
 ghost use Rattle.words.specs.Bytes.{byte_at};
 ghost use Rattle.format.specs.Code.{text_fault_of};
 ghost use Rattle.xml.specs.Names.{most_name_bytes, names, name_in, length_of, good_name, apart as apart_of, good_names, names_fault};
-ghost use Rattle.names.specs.Parts.{good_byte, good_bytes, new_name};
+ghost use Rattle.names.specs.Parts.{good_byte, good_bytes, new_name, good_part};
 
 use crate::bytes::{name_byte, same_bytes};
 use crate::layout::{
@@ -80,7 +81,18 @@ fn new_name(list: &[u8], i: usize) -> bool
     (0..i).all(|j| apart(list, j, i))
 }
 
-// The whole list, of any length. Entries are compared only after each of them by itself was good.
+// The first entries are tested whole before any other, so that an early one that repeats another is refused at once, as an early bad one is. That costs no more than to look at each entry by itself: this is the square root of MOST_NAMES.
+const FEW: usize = 32;
+
+// The n entries from one on, if all before it are good by themselves. They are compared only after each of them by itself was good.
+fn good_part(list: &[u8], from: usize, n: usize) -> bool
+    requires { (from + n ≤ names list.now) × (all_below from (good_name list.now) ≡ true) }
+    ensures { result ≡ good_part list.now from n }
+{
+    (0..n).all(|i| good_name(list, from + i)) && (0..n).all(|i| new_name(list, from + i))
+}
+
+// The whole list, of any length.
 pub fn good_names(list: &[u8]) -> bool
     ensures { result ≡ good_names list.now }
 {
@@ -88,7 +100,8 @@ pub fn good_names(list: &[u8]) -> bool
     if ENTRY_BYTES * n != list.len() || MOST_NAMES < n {
         return false;
     }
-    (0..n).all(|i| good_name(list, i)) && (0..n).all(|i| new_name(list, i))
+    let few = n.min(FEW);
+    good_part(list, 0, few) && good_part(list, few, n - few)
 }
 
 // A list of names that has passed its check. That its elements are bytes is told of a list that a function is lent, but not of one within a type.
