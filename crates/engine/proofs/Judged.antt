@@ -9,7 +9,7 @@ use lib.ListN.{length}
 use lib.Dec.{leb}
 use Rattle.words.specs.First.{unless}
 use Rattle.format.specs.Answer.{refusing}
-use Rattle.format.specs.Layout.{capacity}
+use Rattle.format.specs.Layout.{request_bytes, capacity}
 use Rattle.format.specs.Block.{blocks}
 use Rattle.format.specs.Request.{request_fault}
 use Rattle.format.specs.Policy.{policy_fault, policy_of}
@@ -27,7 +27,12 @@ use Rattle.verdict.specs.declared.verdicts.Verdict.{Verdict}
 use Rattle.verdict.specs.Code.{VerdictIs}
 use Rattle.update.specs.Updating.{update_of}
 use Rattle.update.proofs.Standing.{Standing}
+use Rattle.format_laws.proofs.Rows.{first-length}
 use Rattle.engine.proofs.Decided.{by_size, granted}
+
+pub request-length : (q : List ℕ) → request_fault q ≡ none → length q ≡ request_bytes
+unfolding request_fault
+request-length q e = first-length q request_bytes _ _ e
 
 -- the verdict over the records that stand in the table is the one over those that it means
 module _ (policy table : List ℕ) (t : Sums) (n : ℕ) (standing : Standing policy t table n) (q : List ℕ) (e : Each) (v : Result Verdict Refusal) where

@@ -5,13 +5,13 @@ use native.Mathlib.Decide.{dec_lt}
 use native.Mathlib.Numerals.{add-one}
 use native.Mathlib.Omega.{arith}
 use mathlib.Core.Path.{◌≡◌, refl, sym, ap, ap₂, ◌∙◌}
-use mathlib.Core.Bool.{Bool, true, false, cond, not, ◌&&◌, ◌||◌}
+use mathlib.Core.Bool.{Bool, true, false, cond, not, ◌&&◌, ◌||◌, false≢true}
 use mathlib.Core.List.{List, [], ◌∷◌, ◌++◌, append-nil, map}
 use borrow.Author.Tests.{eqb-true}
 use lib.Bits.{bit_and, bit_or, or_zero_l, or_zero_r}
 use lib.Dec.{eqb}
 use lib.ListN.{length, get_or, take, set, length-set}
-use lib.Seq.{take-suc, take-suc-set, take-length, length-take-le}
+use lib.Seq.{take-suc, take-suc-set, take-length}
 use Rattle.words.specs.Lists.{keep, tab}
 use Rattle.words.specs.Bytes.{part, bit}
 use Rattle.word_laws.proofs.Keep.{keep-more, map-append}
@@ -36,8 +36,14 @@ use Rattle.history.specs.Code.{shared_by, open_by, may_count, found_in, stands_b
 -- ---- where the records of a table stand
 
 module _ (s : List ℕ) (n : ℕ) (room : HasRoom s n) where
+  pub room-few : n ≤ 1920
+  room-few = omega (arith, room.most, room.few)
+
   pub record-inside : (k : ℕ) → k < n → record_start k + record_bytes ≤ length s
   record-inside k h = omega (arith, room.whole, room.most, room.few)
+
+  pub start-few : (k : ℕ) → k < n → record_start k < 65536
+  start-few k h = omega (arith, room.whole, room.most, room.few)
 
 -- ---- a record more
 
@@ -154,9 +160,9 @@ module _ (e : Each) (rules : ℕ) (q : Request) (s : List ℕ) where
                 (sym (found-more e rules q s k at here ∙ rw (may-count e rules q s k at here shared h u)));
           }
 
-  pub pass-end : {len k n x : ℕ} {near : BlockSet} {c : ℕ} {l : List ℕ} → k ≡ n → n ≤ len → Passed e rules q s len k x near c l
-      → (x ≡ open_by e rules q (records_here s n)) × NearOf e rules q s n near × (take c l ≡ found_in e rules q s n) × (length (take c l) ≤ n)
-  pass-end {c} {l} f h p = rw (← f) (p.opens, p.nears, p.founds, omega (arith, length-take-le c l (omega (arith, p.few, p.sized)), p.few))
+  pub pass-end : {len k n x : ℕ} {near : BlockSet} {c : ℕ} {l : List ℕ} → k ≡ n → Passed e rules q s len k x near c l
+      → (x ≡ open_by e rules q (records_here s n)) × NearOf e rules q s n near × (c ≤ n) × (take c l ≡ found_in e rules q s n) × (length l ≡ len)
+  pass-end f p = rw (← f) (p.opens, p.nears, p.few, p.founds, p.sized)
 
 -- the request at byte 0 is the whole
 pub of-user : (q x : Request) → length q ≡ request_bytes → {u : ℕ} {b r : Bool} → u ≡ user (part q 0 request_bytes) → b ≡ same_user u x → b ≡ r → same_user (user q) x ≡ r
@@ -165,6 +171,16 @@ of-user q x h f g e = ap (λ (u : ℕ). same_user u x) (sym (f ∙ ap user (part
 -- ---- whether a record counts for a rule
 
 module _ (e : Each) (q : Request) (i : ℕ) (r : Record) where
+  pub stands-unmarked : (b : Bool) → b ≡ marked i r → not b ≡ true → stands_by e q i r ≡ false
+  unfolding stands_by
+  stands-unmarked true m h = absurd (false≢true h)
+  stands-unmarked false m h = rw (← m)
+
+  pub stands-marked : (b : Bool) → b ≡ marked i r → not b ≡ false → stands_by e q i r ≡ not (bit i (apart_by e q r.request))
+  unfolding stands_by
+  stands-marked true m h = rw (← m)
+  stands-marked false m h = absurd (false≢true (sym h))
+
   pub stands : (b a : Bool) → b ≡ marked i r → a ≡ bit i (apart_by e q r.request) → b && not a ≡ stands_by e q i r
   unfolding stands_by
   stands b a m o = rw (m, o)
@@ -210,9 +226,7 @@ module _ (e : Each) (q : Request) (i : ℕ) (s found : List ℕ) where
               (sym (ap (map deed_of) (by-more ∙ rw (← stands, g)) ∙ map-append deed_of (past_by e q i s (take j found)) (part s at request_bytes ∷ [])));
         }
 
-  pub count-end : {len j c : ℕ} {l : List Deed} → j ≡ length found → length found ≤ len → Counted e q i s found len j c l
-      → (take c l ≡ map deed_of (past_by e q i s found)) × (length (take c l) ≤ length found)
-  count-end {len} {j} {c} {l} f h p = (
-    p.past ∙ ap (λ (m : List ℕ). map deed_of (past_by e q i s m)) (ap (λ (n : ℕ). take n found) f ∙ take-length found),
-    omega (arith, length-take-le c l (omega (arith, p.few, p.sized)), p.few),
-  )
+  pub count-end : {len j c : ℕ} {l : List Deed} → j ≡ length found → Counted e q i s found len j c l
+      → (c ≤ length found) × (take c l ≡ map deed_of (past_by e q i s found)) × (length l ≡ len)
+  count-end {len} {j} {c} {l} f p =
+      (omega (arith, p.few), p.past ∙ ap (λ (m : List ℕ). map deed_of (past_by e q i s m)) (ap (λ (n : ℕ). take n found) f ∙ take-length found), p.sized)

@@ -1,5 +1,5 @@
 // One pass over the records, for all the rules that a request fits: which of their run places are open, and which of the user's records may count.
-ghost use Rattle.std.specs.Prelude.{◌≡◌, ◌+◌, ◌≤◌, length};
+ghost use Rattle.std.specs.Prelude.{◌≡◌, ◌+◌, ◌≤◌, length, take};
 ghost use Rattle.words.specs.Bytes.{part};
 ghost use Rattle.format.specs.Layout.{request_bytes, record_bytes};
 ghost use Rattle.format.specs.Records.{record_from, records_here};
@@ -38,28 +38,27 @@ pub fn shared_at(
     together(each, request::marks(table, at).and(rules), q, table, at)
 }
 
-// What the pass finds: the rules whose run place is open, the blocks that have a record there, and the bytes at which the records begin that
-// may count.
+// What the pass finds: the rules whose run place is open, the blocks that have a record there, and how many records may count.
 #[derive(Clone, Copy)]
-pub struct Found<'a> {
+pub struct Found {
     pub open: RuleSet,
     pub near: BlockSet,
-    pub records: &'a [u16],
+    pub count: usize,
 }
 
 // Goes over the n records of a table. The byte at which a record begins is put down if it is the user's and shares a run place. What is
 // open is told apart from what counts, so that another image can be counted that opens nothing.
-pub fn find<'a>(
+pub fn find(
     each: Each,
     fitting: RuleSet,
     q: &[u8; REQUEST_BYTES],
     table: &[u8],
     n: usize,
-    room: &'a mut [u16],
-) -> Found<'a>
-    requires room_len { n ≤ length room.old }
+    found: &mut [u16],
+) -> Found
+    requires found_len { n ≤ length found.old }
     requires has_room { HasRoom table.now n }
-    ensures { (result.open.0 ≡ open_by each fitting.0 q.now (records_here table.now n)) × (NearOf each fitting.0 q.now table.now n result.near) × (result.records.now ≡ found_in each fitting.0 q.now table.now n) × (length result.records.now ≤ n) }
+    ensures { (result.open.0 ≡ open_by each fitting.0 q.now (records_here table.now n)) × (NearOf each fitting.0 q.now table.now n result.near) × (result.count ≤ n) × (take result.count found.new ≡ found_in each fitting.0 q.now table.now n) × (length found.new ≡ length found.old) }
 {
     let who = request::user(q, 0);
     let mut open = RuleSet(0);
@@ -75,13 +74,9 @@ pub fn find<'a>(
         open = open.or(shared);
         near = near.with(k / Blocks::RECORDS);
         if same_user(table, at, who) {
-            room[count] = at as u16;
+            found[count] = at as u16;
             count += 1;
         }
     }
-    Found {
-        open,
-        near,
-        records: &room[..count],
-    }
+    Found { open, near, count }
 }

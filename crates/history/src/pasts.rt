@@ -1,5 +1,5 @@
 // The past of one rule: what the user did in its run place, as the tallies of its exclusions take it in.
-ghost use Rattle.std.specs.Prelude.{◌≡◌, ℕ, ◌+◌, ◌<◌, ◌≤◌, length, map, get_or};
+ghost use Rattle.std.specs.Prelude.{◌≡◌, ℕ, ◌+◌, ◌<◌, ◌≤◌, length, take, map, get_or};
 ghost use Rattle.format.specs.Layout.{record_bytes, most_rules};
 ghost use Rattle.format.specs.Records.{record_from};
 ghost use Rattle.tally.specs.Code.{deed_of};
@@ -18,26 +18,26 @@ fn stands_in(each: Each, i: u32, q: &[u8; REQUEST_BYTES], table: &[u8], at: usiz
     request::marks(table, at).has(i) && !apart(each, q, table, at).has(i)
 }
 
-// What was done in those of the records found that count for rule i.
-pub fn past_of<'a>(
+// Puts down what was done in those of the records found that count for rule i, and says how many they are.
+pub fn past_of(
     each: Each,
     i: u32,
     q: &[u8; REQUEST_BYTES],
     table: &[u8],
     found: &[u16],
-    room: &'a mut [Deed],
-) -> &'a [Deed]
-    requires i_bound { (i < most_rules) × (length found.now ≤ length room.old) }
+    past: &mut [Deed],
+) -> usize
+    requires i_bound { (i < most_rules) × (length found.now ≤ length past.old) }
     requires by_index { (j : ℕ) → j < length found.now → get_or found.now j 0 + record_bytes ≤ length table.now }
-    ensures { (result.now ≡ map deed_of (past_by each q.now i table.now found.now)) × (length result.now ≤ length found.now) }
+    ensures { (result ≤ length found.now) × (take result past.new ≡ map deed_of (past_by each q.now i table.now found.now)) × (length past.new ≡ length past.old) }
 {
     let mut count = 0usize;
     for start in found {
         let at = usize::from(*start);
         if stands_in(each, i, q, table, at) {
-            room[count] = Deed::read(table, at);
+            past[count] = Deed::read(table, at);
             count += 1;
         }
     }
-    &room[..count]
+    count
 }

@@ -17,6 +17,13 @@ put-more d f out k x made inside e j h = go (dec_lt j k)
     go (yes b) = get_or-set_other out k j x d (λ s. omega arith) ∙ made j b
     go (no b) = let s : j ≡ k = omega arith in rw s (get_or-set_same out k x d inside ∙ e)
 
+-- of numbers
+abbrev pub Made : (ℕ → ℕ) → List ℕ → ℕ → Type 0
+Made f out k = (j : ℕ) → j < k → get_or out j 0 ≡ f j
+
+pub made_more : (f : ℕ → ℕ) (out : List ℕ) (k x : ℕ) → Made f out k → k < length out → x ≡ f k → Made f (set out k x) (k + 1)
+made_more = put-more 0
+
 module _ (p : Policy) where
   narrow-more : (k : ℕ) → ((i : ℕ) → i < k → Narrow (p.rule i)) → Narrow (p.rule k) → (i : ℕ) → i < k + 1 → Narrow (p.rule i)
   narrow-more k made next i h = go (dec_lt i k)

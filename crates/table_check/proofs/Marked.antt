@@ -25,7 +25,7 @@ use Rattle.format.specs.Records.{record_from}
 use Rattle.rule_tests.specs.declared.shapes.Shape.{Shape}
 use Rattle.rule_tests.specs.declared.bounds.Bound.{Bound}
 use Rattle.rule_tests.specs.declared.tests.By.TheVariants.{Shapes as ByShapes, Bounds as ByBounds}
-use Rattle.rule_tests.specs.Shapes.{levels_of, no_shape, shape_fits, marks_within, marks_pass}
+use Rattle.rule_tests.specs.Shapes.{paired, levels_of, no_shape, shape_fits, marks_within, marks_pass}
 use Rattle.rule_tests.specs.Bounds.{no_bound, bound_fits}
 use Rattle.rule_tests.specs.Tests.{Made}
 use Rattle.rule_tests.proofs.GoodLevels.{level_word}
@@ -81,11 +81,27 @@ module _ (p : Policy) (s : List ℕ) (at : ℕ) where
   unfolding good_record
   bad-request e = rw e
 
+  pub has-a-mark : eqb (u32_at s (at + 28)) 0 ≡ false → good_request (part s at 28) && good_marks p (record_from s at) ≡ good_record p (record_from s at)
+  unfolding good_record
+  has-a-mark e = rw e (sym (and-true (good_request (part s at 28) && good_marks p (record_from s at))))
+
   pub by-marks : eqb (u32_at s (at + 28)) 0 ≡ false → good_request (part s at 28) ≡ true → good_marks p (record_from s at) ≡ good_record p (record_from s at)
   unfolding good_record
   by-marks some good = rw (some, good) (sym (and-true (good_marks p (record_from s at))))
 
 -- ---- by shapes and by bounds
+
+-- two levels of the context at a byte, in one number
+abbrev pub levels_at : List ℕ → ℕ → ℕ → ℕ
+levels_at s at l = paired (level_word s at) l
+
+pub paired-levels : (s : List ℕ) (at from l : ℕ) → from ≡ at + 12 + 4 * l → u32_at s from + 4294967296 * u32_at s (from + 4) ≡ levels_at s at l
+paired-levels s at from l e = ap₂ (λ (i j : ℕ). u32_at s i + 4294967296 * u32_at s j) e (omega arith)
+
+-- a test of two pairs of levels, as they were read
+pub pass-as : (test : ℕ → ℕ → ℕ → Bool) (low high marks low' high' marks' : ℕ) → low ≡ low' → high ≡ high' → marks ≡ marks'
+    → marks_pass (test low high) marks ≡ marks_pass (test low' high') marks'
+pass-as test low high marks low' high' marks' e f g = rw (e, f, g)
 
 module _ (image : List ℕ) (accepted : policy_fault image ≡ none) (rules : ℕ) (counted : rules ≡ rule_count image)
     (s : List ℕ) (at : ℕ) (bytes : (j : ℕ) → Byte (get_or s j 0)) (request : good_request (part s at 28) ≡ true)

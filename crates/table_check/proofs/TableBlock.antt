@@ -1,5 +1,5 @@
 -- The fault of a table's block, step by step: its check, its header, its stamp, and then its records. And what is carried from block to block:
--- whether one with fewer records than places came.
+-- whether one with fewer records than places came, and how many records.
 -- Assumes nothing.
 use Prim.Native.Nat.{ℕ, ◌+◌, ◌*◌, ◌≤◌}
 use native.Mathlib.Numerals.{add-one}
@@ -12,13 +12,17 @@ use lib.ListN.{length}
 use lib.Dec.{eqb, leb, ltb}
 use borrow.Author.Tests.{leb-true}
 use Rattle.words.specs.Lists.{any_below}
+use Rattle.words.specs.Bytes.{u16_at}
 use Rattle.words.specs.Sums.{Sums}
 use Rattle.word_laws.proofs.First.{test-passes, test-fails}
+use Rattle.word_laws.proofs.Lists.{length-tab}
+use Rattle.word_laws.proofs.Parts.{u16_at-part}
 use Rattle.word_laws.proofs.Tests.{both_first, both-second}
 use Rattle.format.specs.Answer.{refusal}
 use Rattle.format.specs.Block.{blocks, block, kind, number, total, good_check}
 use Rattle.format.specs.Policy.{Policy}
 use Rattle.format.specs.Table.{count, record_at, gap, good_table_header, good_stamp, table_block_fault}
+use Rattle.format_laws.proofs.BlockImage.{records_in}
 use Rattle.table_check.specs.CheckParts.{short_before, good_table_heading, good_table_head, records_fault, table_fault_in}
 
 module _ (short : Bool) (k n : ℕ) (b : List ℕ) where
@@ -60,3 +64,7 @@ module _ (s : List ℕ) (k : ℕ) where
   pub short-more : short_before s k || ltb (count (block s k)) 15 ≡ short_before s (k + 1)
   unfolding any_below
   short-more = rw (add-one k)
+
+  -- how many records it has
+  pub records-at : length (records_in (block s k)) ≡ u16_at s (512 * k + 8)
+  records-at = length-tab (record_at (block s k)) 0 (count (block s k)) ∙ u16_at-part s (512 * k) 512 8 (omega arith)

@@ -41,6 +41,9 @@ first-front f k zero m h rest = first-none f k m (λ i lo hi. rest i (omega arit
 first-front f k (suc n) zero h rest = absurd (omega arith)
 first-front f k (suc n) (suc m) h rest = ap (λ o. f k or_else o) (first-front f (suc k) n m (omega arith) (λ i lo. rest i (omega arith)))
 
+pub refused-some : {a : Refusal} → some a ≡ none → ⊥
+refused-some h = let z : ◌≡◌ {A = ℕ} 0 1 = cc in omega arith
+
 -- step 1 refuses
 pub verdict-refused : (p : Policy) (q : Request) (rs : List Record) → permitted p q ≡ false → some (refusal 31 0 0) ≡ verdict p q (open_in p rs q) (past_in p rs q)
 unfolding verdict unless ◌or_else◌

@@ -1,3 +1,5 @@
+pub mod Left
+pub mod Room
 pub mod Chains
 pub mod AcceptedEntries
 pub mod Permissions

@@ -1,6 +1,7 @@
 -- Step 1: a policy permits a request where an entry of one of its blocks grants it.
 -- Assumes nothing.
 use Prim.Native.Nat.{ℕ, ◌+◌, ◌-◌, ◌*◌}
+use native.Mathlib.Nat.{sub-zero}
 use native.Mathlib.Omega.{arith}
 use mathlib.Core.Path.{◌≡◌, refl, ap, ◌∙◌}
 use mathlib.Core.Bool.{Bool, true, false, ◌&&◌}
@@ -42,11 +43,17 @@ module _ (b : List ℕ) (q : Request) where
   unfolding entries_of
   its-entries h n e = rw (e, eq-eqb (kind b) permission_kind h)
 
+  pub entries-start : kind b ≡ permission_kind → (n : ℕ) → n ≡ entries b → any_of (grants q) (tab (permission_at b) 0 (n - 0)) ≡ any_of (grants q) (entries_of b)
+  entries-start h n e = rw (sub-zero n) (its-entries h n e)
+
 -- the entries of a policy are those of its blocks
 module _ (s : List ℕ) (q : Request) where
   pub all-entries : any_of (grants q) (flatten (tab (permissions_at s) 0 (blocks s))) ≡ permitted (policy_of s) q
   unfolding permitted policy_of
   all-entries = refl
+
+  pub blocks_start : (n : ℕ) → n ≡ blocks s → any_of (grants q) (flatten (tab (permissions_at s) 0 (n - 0))) ≡ permitted (policy_of s) q
+  blocks_start n e = rw (sub-zero n, e) all-entries
 
   pub block-entries : (k : ℕ) (b : List ℕ) (x : Bool) → b ≡ block s k → x ≡ any_of (grants q) (entries_of b) → x ≡ any_of (grants q) (permissions_at s k)
   unfolding permissions_at entries_of

@@ -1,13 +1,14 @@
 -- Step 3: the search through the rules that judge and their exclusions.
 -- Assumes nothing.
 use Prim.Native.Nat.{ℕ, ◌+◌, ◌-◌, ◌^◌, ◌≤◌, ◌<◌}
+use native.Mathlib.Decide.{dec_lt}
 use native.Mathlib.Omega.{arith}
 use mathlib.Core.Path.{◌≡◌, refl, sym, ap, ◌∙◌}
-use mathlib.Core.Bool.{Bool, true, false, not}
+use mathlib.Core.Bool.{Bool, true, false, not, false≢true}
 use mathlib.Core.List.{List, [], ◌∷◌, ◌++◌}
 use mathlib.Core.Option.{Option, none, some}
 use lib.Dec.{ltb}
-use borrow.Author.Tests.{ltb-true}
+use borrow.Author.Tests.{lt-ltb, ltb-true}
 use Rattle.words.specs.First.{unless, first}
 use Rattle.words.specs.Bytes.{byte_at, bit}
 use Rattle.word_laws.proofs.First.{first_more, first-none}
@@ -54,6 +55,14 @@ module _ (policy : List ℕ) (rules : ℕ) (each : Each) (q : Request) (table fo
         (b : List ℕ) (n : ℕ) → bit i rules ≡ true → b ≡ block policy i → n ≡ byte_at b exclusions_at
         → left (rule_fails policy rules each q table found) (fails_at b i (counts each q table found i)) i most_rules 0 n ≡ t
     rule-judges b n e f k = row-enter (rule_fails policy rules each q table found) (fails_at b i (counts each q table found i)) i most_rules n h l (heard b n e f k)
+
+-- where one that judges has an index as high, that index is one of all
+pub few-rules : (rules i : ℕ) → rules < 4294967296 → i ≤ most_rules → ltb rules (2 ^ i) ≡ false → i < most_rules
+few-rules rules i most le more = go (dec_lt i most_rules)
+  where
+    go : Dec (i < most_rules) → i < most_rules
+    go (yes l) = l
+    go (no g) = let e : i ≡ 32 = omega arith in absurd (false≢true (sym more ∙ lt-ltb rules (2 ^ i) (rw e most)))
 
 -- the rules end where none that judges has an index as high: where no more are the policy's, at the latest
 module _ (policy : List ℕ) (rules : ℕ) (each : Each) (q : Request) (table found : List ℕ) {t : Option Refusal} (i : ℕ) where

@@ -37,6 +37,10 @@ pub record EntriesFit (b : List ℕ) : Type 0 where
 
 -- ---- step 3
 
+-- records for which the code has a small room
+abbrev pub few_records : ℕ
+few_records = 60
+
 -- a set of rules of an accepted policy
 pub record JudgingRules (policy : List ℕ) (rules : ℕ) : Type 0 where
   pub accepted : policy_fault policy ≡ none

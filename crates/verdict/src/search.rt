@@ -51,23 +51,24 @@ pub fn search(
     requires by_index { (j : ℕ) → j < length found.now → get_or found.now j 0 + record_bytes ≤ length table.now }
     ensures { fault_of result ≡ first (rule_fails policy.now.image.now judging.rules.0 judging.each q.now table.now found.now) 0 most_rules }
 {
-    let mut answer = Ok(());
-    'rules: for i in 0..policy.rules {
+    let mut i = 0u32;
+    'rules: loop {
         // Behind the highest rule that judges there is nothing to ask.
         if judging.rules.none_from(i) {
-            break 'rules;
+            break 'rules Ok(());
         }
         if !judging.rules.has(i) {
+            i += 1;
             continue 'rules;
         }
         let b = policy.rule(i);
-        let past = past_of(judging.each, i, q, table, found, room);
+        let count = past_of(judging.each, i, q, table, found, room);
+        let past = &room[..count];
         for e in 0..usize::from(b[EXCLUSIONS_AT]) {
             if reaches(b, e, past, q) {
-                answer = Err(refused_by(b, i, e));
-                break 'rules;
+                break 'rules Err(refused_by(b, i, e));
             }
         }
+        i += 1;
     }
-    answer
 }

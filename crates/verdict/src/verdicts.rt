@@ -94,13 +94,14 @@ fn judged_in<const N: usize>(
 {
     let each = asked.each;
     let matched = asked.matched;
-    let mut room = [0u16; N];
-    let found = find(each, matched.fitting, q, table, n, &mut room);
-    let rules = matched.judging(found.open);
-    searched(policy, Judging { rules, each }, q, table, found.records)?;
+    let mut found = [0u16; N];
+    let seen = find(each, matched.fitting, q, table, n, &mut found);
+    let rules = matched.judging(seen.open);
+    let records = &found[..seen.count];
+    searched(policy, Judging { rules, each }, q, table, records)?;
     Ok(Verdict {
         effect: matched.effect(rules),
-        near: found.near,
+        near: seen.near,
     })
 }
 

@@ -6,7 +6,7 @@ use Rattle.history.proofs.finding.find.Goals.{then-same_user, else-same_user}
 use Rattle.history.proofs.finding.find.Goals as goal
 
 pub loop-k-init : goal.loop-k-init
-loop-k-init c = let a = c.args in (omega arith, pass-start a.each a.fitting.0 a.q.now a.table.now c.none-near.result a.room.now)
+loop-k-init c = let a = c.args in (omega arith, pass-start a.each a.fitting.0 a.q.now a.table.now c.none-near.result a.found.now)
 
 pub loop-k-preserved-then-is_empty : goal.loop-k-preserved-then-is_empty
 loop-k-preserved-then-is_empty c =
@@ -28,11 +28,11 @@ loop-k-preserved c =
       omega arith,
       elim c.if-same_user.branch [
         | then-same_user d ↦
-            rw (d.count-is, d.room-is)
+            rw (d.count-is, d.found-is)
             (pass-found a.each a.fitting.0 a.q.now a.table.now here shared l.invariant.1 some c.or-open.ensures c.with-near.result c.with-near.ensures
-            (of-user a.q.now x c.told-q who c.same_user.ensures d.if-same_user.true) (omega (arith, l.invariant.1.few, l.invariant.1.sized, c.requires.room_len)))
+            (of-user a.q.now x c.told-q who c.same_user.ensures d.if-same_user.true) (omega (arith, l.invariant.1.few, l.invariant.1.sized, c.requires.found_len)))
         | else-same_user d ↦
-            rw (d.count-is, d.room-is)
+            rw (d.count-is, d.found-is)
             (pass-other a.each a.fitting.0 a.q.now a.table.now here shared l.invariant.1 some c.or-open.ensures c.with-near.result c.with-near.ensures
             (of-user a.q.now x c.told-q who c.same_user.ensures d.if-same_user.false))
       ],
@@ -41,4 +41,4 @@ loop-k-preserved c =
 pub returns : goal.returns
 returns c =
     let a = c.args in
-    pass-end a.each a.fitting.0 a.q.now a.table.now (omega arith) c.requires.room_len c.loop-k.invariant.1
+    pass-end a.each a.fitting.0 a.q.now a.table.now (omega arith) c.loop-k.invariant.1

@@ -5,4 +5,4 @@ use Rattle.history.proofs.finding.find.Given as goal
 
 abbrev pub invariant-loop-k : goal.invariant-loop-k
 invariant-loop-k l =
-    (l.k ≤ l.n) × Passed l.each l.fitting.0 l.q l.table (length l.initial.room) l.k l.open.0 l.near l.count l.room
+    (l.k ≤ l.n) × Passed l.each l.fitting.0 l.q l.table (length l.initial.found) l.k l.open.0 l.near l.count l.found

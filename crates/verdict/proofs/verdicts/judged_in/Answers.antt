@@ -28,7 +28,7 @@ module _ (g : Over) (c : After-judging-rules g) where
       let p = a.policy.now in
       let m = c.requires.cases.0 in
       c.judging-rules.ensures (policy_of p.image.now) a.q.now m
-      ∙ ap (λ (x : ℕ). judging_in (policy_of p.image.now) a.q.now (λ i. bit i x)) c.find-found.ensures.0
+      ∙ ap (λ (x : ℕ). judging_in (policy_of p.image.now) a.q.now (λ i. bit i x)) c.find-seen.ensures.0
       ∙ judging-same p.image.now p.accepted a.asked.each c.requires.cases.1 a.q.now a.asked.matched.fitting.0 m.fitting-are (records_here a.table.now a.n)
 
 pub searched-requires-clause-judging_rules : goal.searched-requires-clause-judging_rules
@@ -41,7 +41,7 @@ searched-requires-clause-judging_rules g c =
 pub searched-requires-clause-by_index : goal.searched-requires-clause-by_index
 searched-requires-clause-by_index g c =
     let a = c.args in
-    rw c.find-found.ensures.2 (found_inside a.asked.each a.asked.matched.fitting.0 a.q.now a.table.now a.n c.requires.has_room)
+    rw c.find-seen.ensures.3 (found_inside a.asked.each a.asked.matched.fitting.0 a.q.now a.table.now a.n c.requires.has_room)
 
 -- the verdict, as the search tells it
 module _ (g : Over) (c : After-searched g) where
@@ -52,7 +52,7 @@ module _ (g : Over) (c : After-searched g) where
       let p = a.policy.now in
       c.searched.ensures
       ∙ verdict-found p.image.now a.q.now a.asked.matched.fitting.0 c.requires.cases.0.fitting-are a.table.now a.n p.accepted c.judging-rules.result.0
-      (are g (goal.at.After-searched g c).After-judging-rules) a.asked.each c.requires.cases.1 c.requires.granted _ c.find-found.ensures.2
+      (are g (goal.at.After-searched g c).After-judging-rules) a.asked.each c.requires.cases.1 c.requires.granted _ c.find-seen.ensures.3
 
 pub returns-in_err-searched : goal.returns-in_err-searched
 returns-in_err-searched g c =
@@ -64,7 +64,7 @@ pub returns : goal.returns
 returns g c =
     let a = c.args in
     let p = a.policy.now in
-    let find = c.find-found in
+    let find = c.find-seen in
     let m = c.requires.cases.0 in
     let are' = are g (goal.at.returns g c).After-judging-rules in
     let effect = c.effect.ensures (policy_of p.image.now) a.q.now (open_in (policy_of p.image.now) (records_here a.table.now a.n) a.q.now) m are' in
