@@ -7,7 +7,7 @@
  * would get. A closing removes all records of a context, such as a depot that shuts. A policy's rules
  * can be read from XML text and written as such. The engine has no state of its own, allocates nothing
  * and opens nothing: all that it knows is in the bytes that it is lent. Of its surroundings it needs
- * `memcpy`, `memmove`, `memset` and a stack, nothing else.
+ * `memset` and a stack, nothing else.
  *
  * docs/GUIDE.md tells what a policy means, and what to know before a grant is relied on: separation
  * can be lost outside the engine (a context with its levels in another order, two copies of a table)

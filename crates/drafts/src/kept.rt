@@ -3,7 +3,8 @@ ghost use Rattle.std.specs.Prelude.{◌≡◌, ◌*◌, ◌≤◌, ◌<◌};
 ghost use Rattle.format.specs.Layout.{block_bytes, most_rules};
 ghost use Rattle.table_write.specs.Writing.{over};
 
-use fields::layout::{BLOCK_BYTES, MOST_RULES};
+use fields::layout::{BLOCK_BYTES, MOST_RULES, WORD_BYTES};
+use table_write::places::copy_words;
 
 // The bytes of as many rules as there may be.
 pub const KEPT_BYTES: usize = BLOCK_BYTES * MOST_RULES as usize;
@@ -13,7 +14,6 @@ pub fn keep_rule(image: &mut [u8; KEPT_BYTES], k: usize, d: &[u8; BLOCK_BYTES])
     ensures { (k < most_rules → image.new ≡ over image.old (block_bytes * k) block_bytes d.now) × (most_rules ≤ k → image.new ≡ image.old) }
 {
     if k < MOST_RULES as usize {
-        let at = BLOCK_BYTES * k;
-        image[at..at + BLOCK_BYTES].copy_from_slice(d);
+        copy_words(image, BLOCK_BYTES * k, d, BLOCK_BYTES / WORD_BYTES);
     }
 }

@@ -1,4 +1,5 @@
 pub mod Joins
+pub mod Lent
 pub mod Body
 pub mod Fronts
 pub mod Image

@@ -8,8 +8,9 @@ ghost use Rattle.xml.specs.Blocks.{numbered_anew, image_of};
 ghost use Rattle.numbering.specs.Numbered.{blocks_anew, together};
 
 use fields::field::put_u16;
-use fields::layout::{BLOCK_BYTES, NUMBER_AT, TOTAL_AT};
+use fields::layout::{BLOCK_BYTES, NUMBER_AT, TOTAL_AT, WORD_BYTES};
 use fields::tables::block;
+use table_write::places::copy_words;
 use table_write::write::put_check;
 
 // ---- one block
@@ -30,11 +31,12 @@ fn put_block(from: &[u8], i: usize, output: &mut [u8], j: usize, total: usize)
     requires j_bound { (j < 65536) × (total < 65536) }
     ensures { output.new ≡ over output.old (block_bytes * j) block_bytes (numbered_anew total j (block_at from.now i)) }
 {
-    let (_, rest) = output.split_at_mut(BLOCK_BYTES * j);
+    let at = BLOCK_BYTES * j;
+    copy_words(output, at, block(from, i), BLOCK_BYTES / WORD_BYTES);
+    let (_, rest) = output.split_at_mut(at);
     let Some(place) = rest.first_chunk_mut() else {
         unreachable!()
     };
-    *place = *block(from, i);
     number_block(place, total, j);
 }
 

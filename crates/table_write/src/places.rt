@@ -17,6 +17,17 @@ use fields::tables::{Blocks, record_start};
 
 // ---- bytes
 
+// Copies n words of another slice. Not by the library: its copy of a block calls `memcpy`, or `memmove` where the compiler cannot tell that the two places
+// lie apart, and the archive for C needs neither.
+pub fn copy_words(s: &mut [u8], at: usize, from: &[u8], n: usize)
+    requires { (at + 4 * n ≤ length s.old) × (4 * n ≤ length from.now) }
+    ensures { s.new ≡ over s.old at (4 * n) (take (4 * n) from.now) }
+{
+    for i in 0..n {
+        put_u32(s, at + 4 * i, u32_at(from, 4 * i));
+    }
+}
+
 // Copies n words to a byte that is not behind their own: a word is read before it is written over. With the request copied out as an array, and put from
 // there, last steps that move records took 1.11 to 1.16 of the time.
 fn move_words(s: &mut [u8], from: usize, to: usize, n: usize)
