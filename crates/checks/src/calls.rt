@@ -23,7 +23,7 @@ pub fn check_table(policy: &[u8], table: &[u8]) -> Result<u32, Refusal>
     ensures { accepted_of result ≡ check_table policy.now table.now }
 {
     let checked = Policy::check(policy)?;
-    table_fault(&checked, table)?;
+    table_fault(&checked, checked.stamp(), table)?;
     Ok(record_count(table) as u32)
 }
 
@@ -36,6 +36,6 @@ pub fn make_table(policy: &[u8], table: &mut [u8]) -> Result<u32, Refusal>
         return Err(Refusal::TableLength);
     }
     let places = Blocks(table.len() / BLOCK_BYTES).capacity();
-    fresh(table, checked.stamp);
+    fresh(table, checked.stamp());
     Ok(places as u32)
 }

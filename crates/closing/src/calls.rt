@@ -21,10 +21,11 @@ pub fn close_counted(
     ensures { (outcome (accepted_of (counted_of result)) table.new ≡ close_of policy.now table.old context.now) × (written_of result ≡ closed_blocks policy.now table.old context.now) }
 {
     let checked = Policy::check(policy)?;
-    table_fault(&checked, table)?;
+    let stamp = checked.stamp();
+    table_fault(&checked, stamp, table)?;
     let closed = context_fault(context)?;
     let n = record_count(table);
-    let after = write_closed(checked.stamp, closed, table, n);
+    let after = write_closed(stamp, closed, table, n);
     let held = after.held;
     let removed = n - held;
     Ok(Counted {

@@ -28,14 +28,15 @@ pub fn examine<'a>(policy: &[u8], table: &[u8], request: &'a [u8]) -> Result<Pas
     ensures { ExaminedIs policy.now table.now request.now result }
 {
     let checked = Policy::check(policy)?;
-    table_fault(&checked, table)?;
+    let stamp = checked.stamp();
+    table_fault(&checked, stamp, table)?;
     let asked = request_fault(request)?;
     let held = record_count(table);
     let each = each_of(&checked);
     let verdict = verdict_of(&checked, each, asked, table, held)?;
     Ok(Pass {
         request: asked,
-        stamp: checked.stamp,
+        stamp,
         held,
         ending: Ending {
             rules: verdict.effect.ends,

@@ -87,15 +87,13 @@ pub fn rule_count(s: &[u8]) -> u32
     rules
 }
 
-// A policy that has passed its check: its image, the number of its rules, and its stamp.
+// A policy that has passed its check: its image, and the number of its rules. Its stamp is not in it: only what reads or writes a table has need of that.
 #[derive(Clone, Copy)]
 pub struct Policy<'a> {
     pub image: &'a [u8],
     pub rules: u32,
-    pub stamp: Sum,
     ghost accepted: { policy_fault image.now ≡ none },
     ghost rules_are: { rules ≡ rule_count image.now },
-    ghost stamp_is: { sums_of stamp ≡ stamp_in image.now },
 }
 
 impl<'a> Policy<'a> {
@@ -108,8 +106,14 @@ impl<'a> Policy<'a> {
         Ok(Policy {
             image,
             rules: rule_count(image),
-            stamp: stamp_of(image),
         })
+    }
+
+    // Its stamp, made anew by each call.
+    pub fn stamp(&self) -> Sum
+        ensures { sums_of result ≡ stamp_in self.now.image.now }
+    {
+        stamp_of(self.image)
     }
 
     // The block of the rule of an index, from 0.

@@ -4,7 +4,7 @@ ghost use Rattle.sums.specs.Code.{sums_of};
 ghost use Rattle.words.specs.First.{first};
 ghost use Rattle.format.specs.Layout.{block_bytes, block_records, table_blocks};
 ghost use Rattle.format.specs.Block.{blocks};
-ghost use Rattle.format.specs.Policy.{policy_of, stamp};
+ghost use Rattle.format.specs.Policy.{policy_of, stamp as stamp_in};
 ghost use Rattle.format.specs.Table.{count, good_stamp, table_block_fault, table_fault, records_of};
 ghost use Rattle.format.specs.Code.{fault_of};
 ghost use Rattle.table_check.specs.CheckParts.{good_table_heading, good_table_head, records_fault, table_fault_in};
@@ -79,15 +79,16 @@ fn records_fault(tests: &Tests<'_>, b: &[u8; BLOCK_BYTES], k: u32) -> Result<(),
     Ok(())
 }
 
-// The first fault of block k of n.
+// The first fault of block k of n, under a policy of that stamp.
 fn block_fault(
     tests: &Tests<'_>,
+    stamp: Sum,
     b: &[u8; BLOCK_BYTES],
     k: u32,
     n: u32,
     short: bool,
 ) -> Result<(), Refusal>
-    ensures { fault_of result ≡ table_fault_in (policy_of tests.now.policy.image.now) (stamp tests.now.policy.image.now) short k n b.now }
+    ensures { fault_of result ≡ table_fault_in (policy_of tests.now.policy.image.now) (sums_of stamp) short k n b.now }
 {
     if !good_check(b) {
         return Err(Refusal::TableCheck(k));
@@ -95,31 +96,31 @@ fn block_fault(
     if !good_header(b, k, n, short) {
         return Err(Refusal::TableHeader(k));
     }
-    if !good_stamp(b, tests.policy.stamp) {
+    if !good_stamp(b, stamp) {
         return Err(Refusal::Stamp(k));
     }
     records_fault(tests, b, k)
 }
 
 // The blocks in turn.
-fn blocks_fault(tests: &Tests<'_>, table: &[u8]) -> Result<(), Refusal>
+fn blocks_fault(tests: &Tests<'_>, stamp: Sum, table: &[u8]) -> Result<(), Refusal>
     requires { length table.now ≤ block_bytes * table_blocks }
-    ensures { fault_of result ≡ first (table_block_fault (policy_of tests.now.policy.image.now) (stamp tests.now.policy.image.now) table.now) 0 (blocks table.now) }
+    ensures { fault_of result ≡ first (table_block_fault (policy_of tests.now.policy.image.now) (sums_of stamp) table.now) 0 (blocks table.now) }
 {
     let n = table.len() / BLOCK_BYTES;
     let mut short = false;
     for k in 0..n {
         let b = block(table, k);
-        block_fault(tests, b, k as u32, n as u32, short)?;
+        block_fault(tests, stamp, b, k as u32, n as u32, short)?;
         short = short | (count(b) < Blocks::RECORDS);
     }
     Ok(())
 }
 
 // The blocks in turn, under a policy that has a range: by the bounds of its rules, whose array a policy without one has no need of.
-fn ranged_fault(policy: &Policy<'_>, table: &[u8]) -> Result<(), Refusal>
+fn ranged_fault(policy: &Policy<'_>, stamp: Sum, table: &[u8]) -> Result<(), Refusal>
     requires { length table.now ≤ block_bytes * table_blocks }
-    ensures { fault_of result ≡ first (table_block_fault (policy_of policy.now.image.now) (stamp policy.now.image.now) table.now) 0 (blocks table.now) }
+    ensures { fault_of result ≡ first (table_block_fault (policy_of policy.now.image.now) (sums_of stamp) table.now) 0 (blocks table.now) }
 {
     let mut bounds = [Bound::NONE; MOST_RULES as usize];
     bounds_of(policy, &mut bounds);
@@ -127,18 +128,19 @@ fn ranged_fault(policy: &Policy<'_>, table: &[u8]) -> Result<(), Refusal>
         policy: *policy,
         by: By::Bounds(&bounds),
     };
-    blocks_fault(&tests, table)
+    blocks_fault(&tests, stamp, table)
 }
 
-// The check of any bytes as a table under a policy that has passed its own.
-pub fn table_fault(policy: &Policy<'_>, table: &[u8]) -> Result<(), Refusal>
+// The check of any bytes as a table under a policy that has passed its own, by its stamp, which a call makes once.
+pub fn table_fault(policy: &Policy<'_>, stamp: Sum, table: &[u8]) -> Result<(), Refusal>
+    requires { sums_of stamp ≡ stamp_in policy.now.image.now }
     ensures { fault_of result ≡ table_fault policy.now.image.now table.now }
 {
     if !good_length(table, TABLE_BLOCKS) {
         return Err(Refusal::TableLength);
     }
     if !are_plain(policy) {
-        return ranged_fault(policy, table);
+        return ranged_fault(policy, stamp, table);
     }
     let mut shapes = [Shape::NONE; MOST_RULES as usize];
     shapes_of(policy, &mut shapes);
@@ -146,7 +148,7 @@ pub fn table_fault(policy: &Policy<'_>, table: &[u8]) -> Result<(), Refusal>
         policy: *policy,
         by: By::Shapes(&shapes),
     };
-    blocks_fault(&tests, table)
+    blocks_fault(&tests, stamp, table)
 }
 
 // How many records a table has.

@@ -26,4 +26,4 @@ overflow_cast-result c =
 pub returns : goal.returns
 returns c =
     let k = c.in_ok-checked in
-    fresh-written _ _ _ _ _ (sym k.ensures.fault) (sym c.good_length.ensures ∙ c.if-not-good_length.false) c.capacity-places.ensures c.fresh.ensures.0 (rw k.ensures.image at k.checked.stamp_is)
+    fresh-written _ _ _ _ _ (sym k.ensures.fault) (sym c.good_length.ensures ∙ c.if-not-good_length.false) c.capacity-places.ensures c.fresh.ensures.0 (rw k.ensures.image at c.stamp.ensures)

@@ -33,10 +33,10 @@ returns-in_err-closed c =
 pub record_count-n-requires : goal.record_count-n-requires
 record_count-n-requires c = accepted-small _ _ (sym c.in_ok-table_fault.ensures)
 
-stands : (k : After-record_count-n) → let a = k.args in Standing a.policy.now (sums_of k.in_ok-checked.checked.stamp) a.table.now k.record_count-n.result
+stands : (k : After-record_count-n) → let a = k.args in Standing a.policy.now (sums_of k.stamp-stamp.result) a.table.now k.record_count-n.result
 stands k =
     let p = k.in_ok-checked in
-    standing (slice-bytes _ k.slice_known-1.given) (rw p.ensures.image at (sym k.in_ok-table_fault.ensures)) (rw p.ensures.image at p.checked.stamp_is) k.record_count-n.ensures
+    standing (slice-bytes _ k.slice_known-1.given) (rw p.ensures.image at (sym k.in_ok-table_fault.ensures)) (rw p.ensures.image at k.stamp-stamp.ensures) k.record_count-n.ensures
 
 pub write_closed-after-requires : goal.write_closed-after-requires
 write_closed-after-requires c =
@@ -63,5 +63,5 @@ returns c =
     let k = c.in_ok-checked in
     let x = c.in_ok-closed in
     let e = rw x.ensures.context at c.write_closed-after.ensures in
-    closes _ _ _ (sym k.ensures.fault) (rw k.ensures.image at (sym c.in_ok-table_fault.ensures)) (sym x.ensures.fault) (rw k.ensures.image at k.checked.stamp_is)
+    closes _ _ _ (sym k.ensures.fault) (rw k.ensures.image at (sym c.in_ok-table_fault.ensures)) (sym x.ensures.fault) (rw k.ensures.image at c.stamp-stamp.ensures)
     (stands (goal.at.returns c).After-record_count-n) e.0 e.1 e.2

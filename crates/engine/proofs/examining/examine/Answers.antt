@@ -35,8 +35,8 @@ pub record_count-held-requires : goal.record_count-held-requires
 record_count-held-requires c = accepted-small _ _ (sym c.in_ok-table_fault.ensures)
 
 -- the table stands for its records
-stands : (k : After-record_count-held) → let a = k.args in Standing k.in_ok-checked.checked.image.now (sums_of k.in_ok-checked.checked.stamp) a.table.now k.record_count-held.result
-stands k = standing (slice-bytes _ k.type_inv.table) (sym k.in_ok-table_fault.ensures) k.in_ok-checked.checked.stamp_is k.record_count-held.ensures
+stands : (k : After-record_count-held) → let a = k.args in Standing k.in_ok-checked.checked.image.now (sums_of k.stamp-stamp.result) a.table.now k.record_count-held.result
+stands k = standing (slice-bytes _ k.type_inv.table) (sym k.in_ok-table_fault.ensures) k.stamp-stamp.ensures k.record_count-held.ensures
 
 pub verdict_of-requires-clause-has_room : goal.verdict_of-requires-clause-has_room
 verdict_of-requires-clause-has_room c =
@@ -64,7 +64,7 @@ returns c =
       same = x.ensures.request;
       judged = record {
         accepted = sym k.ensures.fault;
-        stamp-is = rw k.ensures.image at k.checked.stamp_is;
+        stamp-is = rw k.ensures.image at c.stamp-stamp.ensures;
         accepted-table = table-good;
         held-are = c.record_count-held.ensures;
         masks = rw k.ensures.image at c.each_of-each.ensures;

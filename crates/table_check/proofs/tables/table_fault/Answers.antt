@@ -31,7 +31,7 @@ ranged_fault-requires c = short (goal.at.ranged_fault-requires c).Else-not-good_
 pub returns-then-not-are_plain : goal.returns-then-not-are_plain
 unfolding table_fault table_length_fault
 returns-then-not-are_plain c =
-    c.ranged_fault.ensures ∙ sym (test-passes (refusal 11 0 0) _ (sized (goal.at.returns-then-not-are_plain c).Else-not-good_length))
+    (rw c.requires at c.ranged_fault.ensures) ∙ sym (test-passes (refusal 11 0 0) _ (sized (goal.at.returns-then-not-are_plain c).Else-not-good_length))
 
 pub invariant_of-tests : goal.invariant_of-tests
 invariant_of-tests c =
@@ -44,4 +44,4 @@ blocks_fault-requires c = short (goal.at.blocks_fault-requires c).Else-not-good_
 
 pub returns : goal.returns
 unfolding table_fault table_length_fault
-returns c = c.blocks_fault.ensures ∙ sym (test-passes (refusal 11 0 0) _ (sized (goal.at.returns c).Else-not-good_length))
+returns c = (rw c.requires at c.blocks_fault.ensures) ∙ sym (test-passes (refusal 11 0 0) _ (sized (goal.at.returns c).Else-not-good_length))
