@@ -1,10 +1,10 @@
 -- Text laid down piece by piece is the whole text laid down.
 -- Assumes nothing.
-use Prim.Native.Nat.{ℕ, suc, ◌+◌, ◌*◌, ◌≤◌, ◌<◌}
+use Prim.Native.Nat.{ℕ, zero, suc, ◌+◌, ◌-◌, ◌*◌, ◌≤◌, ◌<◌}
 use native.Mathlib.Nat.{add-zero, add-suc, suc-add, add_assoc}
 use native.Mathlib.Numerals.{add-one}
 use native.Mathlib.Omega.{arith}
-use mathlib.Core.Path.{◌≡◌, refl, sym, ◌∙◌}
+use mathlib.Core.Path.{◌≡◌, refl, sym, ap, ◌∙◌}
 use mathlib.Core.Bool.{Bool, true, false}
 use mathlib.Core.List.{List, [], ◌∷◌, ◌++◌, flatten, append-nil, append_assoc}
 use lib.ListN.{length, get_or, set, take, drop, length-append, length-take}
@@ -19,7 +19,7 @@ use Rattle.std.proofs.lemmas.Result.{err_from_is_err_and}
 use Rattle.std.specs.declared.result.Result.TheVariants.{Ok, Err}
 use Rattle.format.specs.declared.answer.TextRefusal.{TextRefusal}
 use Rattle.format.specs.declared.answer.TextRefusal.TheVariants.{NotListed}
-use Rattle.text_write.specs.Laid.{laid, Lays, Puts}
+use Rattle.text_write.specs.Laid.{laid, Lays, Begun, Puts}
 
 -- ---- bytes
 
@@ -78,31 +78,56 @@ pub lays-nothing : (o : List ℕ) (a : ℕ) → Lays 0 o a [] o a
 unfolding laid
 lays-nothing o a = record { bytes = refl; behind = sym (add-zero a); few = omega arith }
 
+-- ---- pieces begun
+
+-- not at all
+pub begun-none : (o : List ℕ) (a : ℕ) (w : List ℕ) → Begun o a w o
+unfolding laid
+begun-none o a w = record { front = []; rest = w; whole = refl; bytes = refl }
+
+-- the same piece, its text told in other words
+pub begun-told : {o o' : List ℕ} {a : ℕ} {w v : List ℕ} → Begun o a w o' → w ≡ v → Begun o a v o'
+begun-told x e = record { front = x.front; rest = x.rest; whole = sym e ∙ x.whole; bytes = x.bytes }
+
+-- with one behind it
+pub begun_more : {o o' : List ℕ} {a : ℕ} {w : List ℕ} → Begun o a w o' → (v : List ℕ) → Begun o a (w ++ v) o'
+begun_more x v = record { front = x.front; rest = x.rest ++ v; whole = rw x.whole (append_assoc x.front x.rest v); bytes = x.bytes }
+
+-- behind one that is laid down
+pub then-begun : {o o' o'' : List ℕ} {a a' : ℕ} {w v : List ℕ} {m : ℕ} → Lays m o a w o' a' → Begun o' a' v o'' → Begun o a (w ++ v) o''
+then-begun {o} {o'} {o''} {a} {a'} {w} {v} x y =
+    record {
+      front = w ++ y.front;
+      rest = y.rest;
+      whole = rw y.whole (sym (append_assoc w y.front y.rest));
+      bytes = y.bytes ∙ rw (x.bytes, x.behind) (laid-twice o a w y.front);
+    }
+
 -- ---- pieces with names
 
 -- laid down, or refused
 pub puts-ok : {m : ℕ} {o o' : List ℕ} {a n : ℕ} {w : List ℕ} {l : Bool} → l ≡ false → Lays m o a w o' n → Puts m o a w l o' (Ok n)
 puts-ok e x = record { was = (e, x) }
 
-pub puts-err : {m : ℕ} {o o' : List ℕ} {a : ℕ} {w : List ℕ} {l : Bool} {e : TextRefusal} → l ≡ true → e ≡ NotListed → Puts m o a w l o' (Err e)
-puts-err f g = record { was = (f, g) }
+pub puts-err : {m : ℕ} {o o' : List ℕ} {a : ℕ} {w : List ℕ} {l : Bool} {e : TextRefusal} → l ≡ true → e ≡ NotListed → Begun o a w o' → Puts m o a w l o' (Err e)
+puts-err f g b = record { was = (f, g, b) }
 
 -- a refusal handed on
 pub refused : {m : ℕ} {o o' : List ℕ} {a : ℕ} {w : List ℕ} {l : Bool} {e : TextRefusal} (r : Result ℕ TextRefusal)
-    → IsErrAnd r (λ t. t ≡ e) → l ≡ true → e ≡ NotListed → Puts m o a w l o' r
-refused r h f g = let p = err_from_is_err_and r h in rw p.1 (puts-err f (p.2 ∙ g))
+    → IsErrAnd r (λ t. t ≡ e) → l ≡ true → e ≡ NotListed → Begun o a w o' → Puts m o a w l o' r
+refused r h f g b = let p = err_from_is_err_and r h in rw p.1 (puts-err f (p.2 ∙ g) b)
 
 -- the same told in other words, and with a wider bound
 pub retold : (r : Result ℕ TextRefusal) {o o' : List ℕ} {a : ℕ} {w v : List ℕ} {l k : Bool} {m n : ℕ}
     → Puts m o a w l o' r → w ≡ v → l ≡ k → m ≤ n → Puts n o a v k o' r
 retold (Ok b) x e f h = puts-ok (sym f ∙ x.was.0) (told x.was.1 e h)
-retold (Err t) x e f h = puts-err (sym f ∙ x.was.0) x.was.1
+retold (Err t) x e f h = puts-err (sym f ∙ x.was.0) x.was.1 (begun-told x.was.2 e)
 
 -- such a piece behind another
 pub then-puts : (r : Result ℕ TextRefusal) {o o' o'' : List ℕ} {a a' : ℕ} {w v : List ℕ} {l : Bool} {m n : ℕ}
     → Lays m o a w o' a' → Puts n o' a' v l o'' r → Puts (m + n) o a (w ++ v) l o'' r
 then-puts (Ok b) x y = puts-ok y.was.0 (and_then x y.was.1)
-then-puts (Err t) x y = puts-err y.was.0 y.was.1
+then-puts (Err t) x y = puts-err y.was.0 y.was.1 (then-begun x y.was.2)
 
 -- ---- a row of pieces
 
@@ -133,6 +158,20 @@ module _ (m : ℕ) (f : ℕ → List ℕ) (g : ℕ → Bool) (o : List ℕ) (a :
   pub row_done : {o' : List ℕ} {a' : ℕ} (i n most : ℕ) → Row i o' a' → i ≡ n → m * n ≤ most
       → (any_below n g ≡ false) × Lays most o a (flatten (tab f 0 n)) o' a'
   row_done i n most x e h = let y = rw e at x in (y.0, told y.1 refl h)
+
+  -- the first i pieces and the beginning of the next are the beginning of the row
+  row_longer : {o' : List ℕ} (i k : ℕ) → Begun o a (flatten (tab f 0 i)) o' → Begun o a (flatten (tab f 0 (i + k))) o'
+  row_longer i zero b = let e : i ≡ i + 0 = omega arith in begun-told b (ap (λ n. flatten (tab f 0 n)) e)
+  row_longer i (suc k) b =
+      let e : i + k + 1 ≡ i + suc k = omega arith in
+      begun-told (begun_more (row_longer i k b) (f (i + k)))
+      (sym (rw (tab-next f (i + k)) (flatten-snoc (tab f 0 (i + k)) (f (i + k)))) ∙ ap (λ n. flatten (tab f 0 n)) e)
+
+  pub row-begun : {o' o'' : List ℕ} {a' : ℕ} (i n : ℕ) → i < n → Row i o' a' → Begun o' a' (f i) o'' → Begun o a (flatten (tab f 0 n)) o''
+  row-begun i n h x y =
+      let e : i + 1 + (n - (i + 1)) ≡ n = omega arith in
+      let b = begun-told (then-begun x.1 y) (sym (rw (tab-next f i) (flatten-snoc (tab f 0 i) (f i)))) in
+      begun-told (row_longer (i + 1) (n - (i + 1)) b) (ap (λ k. flatten (tab f 0 k)) e)
 
 -- a row with a piece that wants one
 pub row-lost : (g : ℕ → Bool) (n i : ℕ) → i < n → g i ≡ true → any_below n g ≡ true

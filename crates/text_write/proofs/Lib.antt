@@ -1,5 +1,6 @@
 pub mod Ranges
 pub mod Laying
+pub mod Naming
 pub mod Texts
 pub mod Faults
 pub mod Accepted

@@ -1,6 +1,6 @@
 -- The text as the definitions spell it is the row of pieces that the code lays down.
 -- Assumes nothing.
-use Prim.Native.Nat.{ℕ, ◌+◌}
+use Prim.Native.Nat.{ℕ, ◌+◌, ◌<◌}
 use Prim.Native.String.{String}
 use native.Mathlib.Omega.{arith}
 use mathlib.Core.Path.{◌≡◌, refl, sym, ◌∙◌}
@@ -35,6 +35,14 @@ two-joined : (s a b q e v u : List ℕ) → s ++ a ++ v ++ (q ++ b) ++ u ++ (q +
 two-joined s a b q e v u = simp append_assoc
 
 -- ---- members
+
+-- what is chosen by a kind is one of two
+pub two-words : (k : ℕ) {r a b n : ℕ} → r ≡ cond (eqb k 1) a b → a < n → b < n → r < n
+two-words k {r} {a} {b} {n} e g h = rw e (go (eqb k 1))
+  where
+    go : (t : Bool) → cond t a b < n
+    go true = g
+    go false = h
 
 -- a role's tag, and a privilege's: the fixed pieces are what the definition spells between the names
 role-spelt : (v : List ℕ)

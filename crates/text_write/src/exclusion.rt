@@ -39,9 +39,15 @@ pub fn put_pair(
     ensures { Puts most_pair_bytes output.old at (pair_text names.now.list.now start.now between.now (privilege_of p)) (privilege_lost names.now.list.now (privilege_of p)) output.new result }
 {
     let first = put(output, at, start);
-    let second = put_name(output, first, names, NameKind::Operation, p.operation.0)?;
+    let second = put_name(
+        output,
+        first,
+        names,
+        NameKind::Operation.code(),
+        p.operation.0,
+    )?;
     let third = put(output, second, between);
-    let fourth = put_name(output, third, names, NameKind::Target, p.target.0)?;
+    let fourth = put_name(output, third, names, NameKind::Target.code(), p.target.0)?;
     Ok(put(output, fourth, ELEMENT_END))
 }
 
@@ -56,7 +62,7 @@ fn put_role(
     ensures { Puts most_role_bytes output.old at (role_text names.now.list.now role) (name_lost names.now.list.now role_names role) output.new result }
 {
     let first = put(output, at, ROLE);
-    let second = put_name(output, first, names, NameKind::Role, role)?;
+    let second = put_name(output, first, names, NameKind::Role.code(), role)?;
     Ok(put(output, second, ELEMENT_END))
 }
 

@@ -1,14 +1,12 @@
 // What every piece of the text is laid down by: bytes and names. Past the output's end nothing is written. Each answers where the next byte goes.
-ghost use Rattle.std.specs.Prelude.{◌≡◌, true, ◌+◌, ◌<◌, ◌≤◌, length, set};
+ghost use Rattle.std.specs.Prelude.{◌≡◌, true, ◌+◌, ◌<◌, ◌≤◌, length, set, OnErr};
 ghost use Rattle.xml.specs.Names.{most_name_bytes};
 ghost use Rattle.xml.specs.Write.{name_text};
-ghost use Rattle.names.specs.Code.{name_code};
 ghost use Rattle.text_write.specs.Laid.{Lays, Puts};
 ghost use Rattle.text_write.specs.Lost.{name_lost};
 
 use format::answer::TextRefusal;
 use names::good::Names;
-use names::kind::NameKind;
 
 // A byte.
 fn put_byte(output: &mut [u8], at: usize, b: u8)
@@ -30,18 +28,19 @@ pub fn put(output: &mut [u8], at: usize, s: &[u8]) -> usize
     at + s.len()
 }
 
-// The name of a number.
+// The name of a number of a kind. The kind is a number, and no `NameKind`, since an answer is promised for every number.
 pub fn put_name(
     output: &mut [u8],
     at: usize,
     names: &Names<'_>,
-    kind: NameKind,
+    kind: u8,
     number: u16,
 ) -> Result<usize, TextRefusal>
     requires { at + most_name_bytes < 4294967296 }
-    ensures { Puts most_name_bytes output.old at (name_text names.now.list.now (name_code kind) number) (name_lost names.now.list.now (name_code kind) number) output.new result }
+    ensures puts { Puts most_name_bytes output.old at (name_text names.now.list.now kind number) (name_lost names.now.list.now kind number) output.new result }
+    ensures kept { OnErr result (output.new ≡ output.old) }
 {
-    let Some(name) = names.name_of(kind.code(), number) else {
+    let Some(name) = names.name_of(kind, number) else {
         return Err(TextRefusal::NotListed);
     };
     Ok(put(output, at, name))

@@ -101,7 +101,7 @@ fn put_value(
     let mark = b[LEVEL_MARK_AT + LEVEL_BYTES * i];
     if mark == FIXED {
         let value = u16_at(b, LEVEL_VALUE_AT + LEVEL_BYTES * i) as u16;
-        return put_name(output, at, names, NameKind::ContextValue, value);
+        return put_name(output, at, names, NameKind::ContextValue.code(), value);
     }
     if mark == EVERY {
         return Ok(put(output, at, spelling::EVERY));
@@ -133,7 +133,7 @@ fn put_level(
 {
     let kind = u16_at(b, LEVEL_TYPE_AT + LEVEL_BYTES * i) as u16;
     let first = put_comma(output, at, i);
-    let second = put_name(output, first, names, NameKind::ContextType, kind)?;
+    let second = put_name(output, first, names, NameKind::ContextType.code(), kind)?;
     let third = put(output, second, EQUALS);
     put_value(output, third, names, b, i)
 }

@@ -3,18 +3,19 @@ use mathlib.Core.Path.{refl}
 use Rattle.forms.specs.Form.{ascii}
 use Rattle.xml.specs.Write.{level_text}
 use Rattle.text_write.specs.Lost.{level_lost}
-use Rattle.text_write.proofs.Laying.{and_then, retold, then-puts, refused}
+use Rattle.text_write.proofs.Laying.{and_then, retold, then-puts, refused, then-begun, begun_more}
 use Rattle.text_write.proofs.rule.put_level.Goals as goal
 
 pub returns-in_err-second : goal.returns-in_err-second
-unfolding level_lost
+unfolding ascii level_text level_lost
 returns-in_err-second c =
-    let x = rw c.u16_at-kind.ensures.0 at c.in_err-second.ensures.was in
+    let x = rw (c.u16_at-kind.ensures.0, c.code.ensures) at c.in_err-second.ensures.puts.was in
     refused c.from_residual.result c.from_residual.ensures.1 (rw x.0) x.1
+    (then-begun c.put_comma-first.ensures (begun_more (begun_more x.2 _) _))
 
 pub returns : goal.returns
 unfolding ascii level_text level_lost
 returns c =
-    let second = rw c.u16_at-kind.ensures.0 at c.in_ok-second.ensures.was in
+    let second = rw (c.u16_at-kind.ensures.0, c.code.ensures) at c.in_ok-second.ensures.puts.was in
     let x = then-puts c.put_value.result (and_then second.1 c.put-third.ensures) c.put_value.ensures in
     retold c.put_value.result (then-puts c.put_value.result c.put_comma-first.ensures x) refl (rw second.0) (omega arith)

@@ -2,14 +2,14 @@ use native.Mathlib.Omega.{arith}
 use mathlib.Core.Path.{refl}
 use Rattle.forms.specs.Form.{ascii}
 use Rattle.format.specs.Rule.{rule_at}
-use Rattle.text_write.proofs.Laying.{retold, then-puts, refused}
+use Rattle.text_write.proofs.Laying.{retold, then-puts, refused, begun_more}
 use Rattle.text_write.proofs.rule.put_steps.Goals as goal
 
 pub returns-in_err-first : goal.returns-in_err-first
 unfolding rule_at ascii
 returns-in_err-first c =
     let x = c.in_err-first.ensures.was in
-    refused c.from_residual.result c.from_residual.ensures.1 (rw x.0) x.1
+    refused c.from_residual.result c.from_residual.ensures.1 (rw x.0) x.1 (begun_more x.2 _)
 
 pub returns : goal.returns
 unfolding rule_at ascii

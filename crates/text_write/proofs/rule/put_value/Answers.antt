@@ -6,7 +6,7 @@ use Rattle.text_write.proofs.rule.put_value.Goals as goal
 pub returns-then-mark-eq-FIXED : goal.returns-then-mark-eq-FIXED
 returns-then-mark-eq-FIXED c =
     let a = c.args in
-    value-fixed a.names.now.list.now (level_at a.b.now a.i) c.put_name.result c.if-mark-eq-FIXED.true (rw c.u16_at-value.ensures.0 at c.put_name.ensures)
+    value-fixed a.names.now.list.now (level_at a.b.now a.i) c.put_name.result c.if-mark-eq-FIXED.true (rw (c.u16_at-value.ensures.0, c.code.ensures) at c.put_name.ensures.puts)
 
 pub returns-then-mark-eq-EVERY : goal.returns-then-mark-eq-EVERY
 unfolding ascii
