@@ -1,4 +1,5 @@
 pub mod Numbers
+pub mod Zeroed
 pub mod Rows
 pub mod Elements
 pub mod Counted

@@ -2,13 +2,12 @@
 ghost use Rattle.std.specs.Prelude.{◌≡◌, List, ◌<◌, OnOk, OnErr};
 ghost use Rattle.format.specs.Rule.{Level, good_exclusion};
 ghost use Rattle.format.specs.Code.{text_fault_of};
-ghost use Rattle.fields.specs.Code.{exclusion_code, privilege_of};
+ghost use Rattle.fields.specs.Code.{privilege_of};
 ghost use Rattle.xml.specs.Read.{Members, Draft, new_members, exclusion_of, with_member, with_exclusion, within};
 ghost use Rattle.drafts.specs.Draft.{exclusion_block, draft_block, MembersFit};
 
 use crate::limits::exclusion_within;
 use crate::part::{counted, put_pair};
-use fields::kind::ExclusionKind;
 use fields::layout::{
     BLOCK_BYTES, EXCLUSION_BYTES, EXCLUSION_KIND_AT, EXCLUSION_M_AT, EXCLUSION_N_AT, EXCLUSIONS_AT,
     MEMBER_BYTES, MEMBERS_AT, MOST_EXCLUSIONS, MOST_MEMBERS,
@@ -25,11 +24,11 @@ pub fn no_exclusion(x: &mut [u8; BLOCK_BYTES])
 }
 
 // An exclusion begins, with no member yet.
-pub fn start_exclusion(x: &mut [u8; BLOCK_BYTES], kind: ExclusionKind, m: u8)
-    ensures { x.new ≡ exclusion_block (new_members (exclusion_code kind) m) }
+pub fn start_exclusion(x: &mut [u8; BLOCK_BYTES], kind: u8, m: u8)
+    ensures { x.new ≡ exclusion_block (new_members kind m) }
 {
     no_exclusion(x);
-    x[EXCLUSION_KIND_AT] = kind.code();
+    x[EXCLUSION_KIND_AT] = kind;
     x[EXCLUSION_M_AT] = m;
 }
 

@@ -16,7 +16,7 @@ use Rattle.reader.specs.Scan.{run_end, RunsOn, Goes, Found, Scans, Leads}
 use Rattle.reader.specs.declared.misfit.Misfit.{Misfit}
 use Rattle.reader.proofs.Computed.{computed}
 use Rattle.reader.proofs.Scans.{took, stopped, goes_on, goes-stops, goes-found}
-use Rattle.reader.proofs.Steps.{goes_same, goes-past, goes-many, runs-found}
+use Rattle.reader.proofs.Steps.{goes_same, stops-here, goes-past, goes-many, runs-found}
 use Rattle.reader.proofs.Choices.{one_of_two}
 use Rattle.reader.proofs.Starts.{starts-no, starts-yes, starts-in}
 use Rattle.reader.proofs.Levels.{level-apart, value-apart, after-apart, context-ends, context-begins, levels-end, levels-go-on, value-star, value-bang, value-name}
@@ -32,6 +32,12 @@ module _ {t : List ℕ} {a : ℕ} where
       (goes-past ((level_value ▸ after_level) ▸ k) (after_level ▸ k) (get_or t a 0) l refl
       (one_of_two (λ b. left ((level_value ▸ after_level) ▸ k) b ≡ after_level ▸ k) 42 33 (get_or t a 0) (value-star k) (value-bang k) e) hope)
       (omega arith)
+
+  -- none, as the text ends
+  pub value-missing : {m : Misfit} → m.0 ≡ a → length t ≤ a → Leads (level_value ▸ after_level) after_level t a (Err m)
+  unfolding computed
+  value-missing e l k hope =
+      stopped ((level_value ▸ after_level) ▸ k) (after_level ▸ k) (rw e (stops-here ((level_value ▸ after_level) ▸ k) refl (λ h. absurd (omega arith))))
 
   -- a name, or no value
   pub value-named : {r : Result ℕ Misfit} → a ≤ length t → (a < length t → (get_or t a 0 ≡ 42 → ⊥) × (get_or t a 0 ≡ 33 → ⊥)) → RunsOn of_name t a r

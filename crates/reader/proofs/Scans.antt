@@ -33,3 +33,11 @@ module _ {t : List ℕ} {a b : ℕ} where
   pub goes-found : (f g h : Form) {r : Result ℕ Misfit} → Goes f t a g b → Found g t b r h → Found f t a r h
   goes-found f g h {r = Ok c} p q = let up = p.upwards in took f h (goes_on f g h p q.took.0) (omega (arith, q.took.1))
   goes-found f g h {r = Err m} p q = stopped f h (goes-stops f g p q.stopped)
+
+  -- the first of two took, and the second took or not
+  pub found-then : (f g h : Form) {r : Result ℕ Misfit} → Found f t a (Ok b) g → Found g t b r h → Found f t a r h
+  found-then f g h p q = goes-found f g h p.took.0 q
+
+-- what stopped, stopped whatever it would have gone on with
+pub found-else : {t : List ℕ} {a : ℕ} {m : Misfit} (f g h : Form) → Found f t a (Err m) g → Found f t a (Err m) h
+found-else f g h p = stopped f h p.stopped

@@ -130,7 +130,7 @@ module _ (q : Kind) (k : Form) {t : List ℕ} {a : ℕ} (other : Apart q k) (hop
       }
 
   -- one of them at least
-  goes_some : a < run_end q t a → Goes (one q ▸ many (one q) ▸ k) t a k (run_end q t a)
+  pub goes_some : a < run_end q t a → Goes (one q ▸ many (one q) ▸ k) t a k (run_end q t a)
   unfolding may_end joined
   goes_some l =
       let m = length-drop a t in
@@ -143,7 +143,7 @@ module _ (q : Kind) (k : Form) {t : List ℕ} {a : ℕ} (other : Apart q k) (hop
       goes-many
 
 -- there is none of them
-stops-some : (q : Kind) (k : Form) {t : List ℕ} {a : ℕ} → run_end q t a ≡ a → Stops (one q ▸ k) t a a
+pub stops-some : (q : Kind) (k : Form) {t : List ℕ} {a : ℕ} → run_end q t a ≡ a → Stops (one q ▸ k) t a a
 unfolding may_end joined hopeless
 stops-some q k {t} {a} e =
     stops-here (one q ▸ k) refl (λ l. rw (left_one q k (get_or t a 0), run-stops q (drop a t) (get_or t a 0) (drop (suc a) t) (rest l)))

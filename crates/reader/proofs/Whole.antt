@@ -13,7 +13,7 @@ use Rattle.forms.specs.Run.{run}
 use Rattle.forms.proofs.Runs.{run-induction, run_fits}
 use Rattle.xml.specs.Grammar.{set}
 use Rattle.reader.specs.Table.{inner, ahead}
-use Rattle.reader.specs.Scan.{run_end, Goes}
+use Rattle.reader.specs.Scan.{run_end, Goes, Stops}
 use Rattle.reader.specs.Read.{Reached}
 use Rattle.reader.proofs.Computed.{computed}
 use Rattle.reader.proofs.Steps.{hopeless-form}
@@ -51,6 +51,10 @@ module _ (t : List ℕ) where
   pub whole-start : Goes set t 0 (ahead 0) 0
   unfolding computed ahead inner
   whole-start = record { upwards = omega arith; fits = omega arith; reaches = refl; same = refl }
+
+  -- a tag stopped
+  pub whole-stops : (s p b : ℕ) → Goes set t 0 (ahead s) p → Stops (ahead s) t p b → (b ≡ reach set t) × (false ≡ is_of_form set t)
+  whole-stops s p b so q = (sym q.stops ∙ sym so.reaches ∙ zero-add (reach set t), sym q.never ∙ sym so.same)
 
   -- behind the last there is white space alone, to the end or not
   module _ (p n : ℕ) (so : Goes set t 0 (ahead 7) p) (e : n ≡ run_end space t p) where

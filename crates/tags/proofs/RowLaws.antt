@@ -1,11 +1,13 @@
 -- Which row a beginning is, looked for row by row, and what a row says.
 -- Assumes nothing.
-use Prim.Native.Nat.{ℕ, suc, ◌≤◌, ◌<◌}
+use Prim.Native.Nat.{ℕ, suc, ◌+◌, ◌≤◌, ◌<◌}
 use native.Mathlib.Omega.{arith}
+use native.Mathlib.Numerals.{add-one}
 use mathlib.Core.Path.{◌≡◌, refl, ◌∙◌}
 use mathlib.Core.Bool.{Bool, true, false, cond}
 use mathlib.Core.List.{List, [], ◌∷◌, map}
-use lib.ListN.{length, get_or, get_or-eq_default}
+use lib.ListN.{length, get_or, drop, get_or-eq_default}
+use lib.Seq.{drop-cons, drop-length}
 use Rattle.words.specs.Lists.{same_list}
 use Rattle.xml.specs.Tags.{Row, rows, saying, other}
 use Rattle.tags.specs.Rows.{place_of, beginning_of, beginnings, beginning, row_of, said_by}
@@ -13,6 +15,23 @@ use Rattle.tags.proofs.RowTable.{lengths-below, sixteen}
 use Rattle.tags.proofs.Compared.{same-lengths}
 
 -- ---- one row after the other
+
+module _ (p : List ℕ) (ls : List (List ℕ)) (k : ℕ) (h : k < length ls) where
+  -- the place is found at row k, or is looked for behind it
+  place_at : place_of p (drop k ls) ≡ cond (same_list p (get_or ls k [])) 0 (suc (place_of p (drop (k + 1) ls)))
+  unfolding place_of
+  place_at = rw (add-one k, drop-cons ls k [] h)
+
+  pub place_here : same_list p (get_or ls k []) ≡ true → place_of p (drop k ls) ≡ 0
+  place_here e = rw e at place_at
+
+  pub place-later : same_list p (get_or ls k []) ≡ false → place_of p (drop k ls) ≡ suc (place_of p (drop (k + 1) ls))
+  place-later e = rw e at place_at
+
+-- behind the last row nothing is found
+pub place_end : (p : List ℕ) (ls : List (List ℕ)) → place_of p (drop (length ls) ls) ≡ 0
+unfolding place_of
+place_end p ls = rw (drop-length ls)
 
 -- where no row is p, the place is the number of rows
 place_none : (p : List ℕ) (ls : List (List ℕ)) → ((k : ℕ) → k < length ls → same_list p (get_or ls k []) ≡ false) → place_of p ls ≡ length ls

@@ -2,11 +2,13 @@
 -- Assumes nothing.
 use Prim.Native.Nat.{ℕ, zero, suc, ◌+◌, ◌-◌, ◌≤◌, ◌<◌}
 use native.Mathlib.Omega.{arith}
+use native.Mathlib.Numerals.{add-one}
 use mathlib.Core.Path.{◌≡◌, ◌∙◌}
 use mathlib.Core.List.{List, [], ◌∷◌, ◌++◌}
+use borrow.Author.Tests.{eq-eqb, ne_eqb}
 use lib.ListN.{length, get_or, take, drop, length-take, length-drop}
 use lib.Seq.{drop-cons, take-suc, take-take, get_or-drop, drop-drop, take-nil}
-use Rattle.tags.specs.Cut.{span}
+use Rattle.tags.specs.Cut.{span, until}
 
 -- a span up to its own beginning is empty
 pub span_none : (t : List ℕ) (a : ℕ) → span t a a ≡ []
@@ -44,3 +46,21 @@ pub span_rest : (t : List ℕ) (a b n : ℕ) → drop n (span t a b) ≡ span t 
 span_rest t a b n =
     let e : b - a - n ≡ b - (a + n) = omega arith in
     drop-front n (b - a) (drop a t) ∙ rw (e, drop-drop n a t)
+
+-- ---- where a byte stands first in a span
+
+module _ (c : ℕ) (t : List ℕ) (a b : ℕ) (h : a < b) (k : b ≤ length t) where
+  -- it is the span's first byte
+  pub until-here : get_or t a 0 ≡ c → until c (span t a b) ≡ 0
+  unfolding until
+  until-here e = rw (span-cons t a b h k, eq-eqb (get_or t a 0) c e)
+
+  -- it is not, and is looked for behind that
+  pub until-later : (get_or t a 0 ≡ c → ⊥) → until c (span t a b) ≡ suc (until c (span t (a + 1) b))
+  unfolding until
+  until-later e = rw (add-one a, span-cons t a b h k, ne_eqb (get_or t a 0) c e)
+
+-- an empty span has none
+pub until_none : (c : ℕ) (t : List ℕ) (a : ℕ) → until c (span t a a) ≡ 0
+unfolding until
+until_none c t a = rw (span_none t a)

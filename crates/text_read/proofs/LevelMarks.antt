@@ -3,7 +3,7 @@
 use Prim.Native.Nat.{ℕ}
 use native.Mathlib.Omega.{arith}
 use mathlib.Core.Path.{◌≡◌, refl}
-use mathlib.Core.Bool.{Bool, true, false, cond}
+use mathlib.Core.Bool.{Bool, true, false, cond, not, ◌&&◌, ◌||◌}
 use mathlib.Core.List.{List, [], ◌∷◌}
 use mathlib.Core.Option.{Option, none}
 use Rattle.format.specs.Answer.{Refusal}
@@ -18,7 +18,7 @@ use Rattle.xml.specs.Names.{type_names, value_names, number_of}
 use Rattle.xml.specs.Read.{or_zero, is_every, is_each, level_from, level_of}
 use Rattle.tags.specs.Cut.{laid}
 use Rattle.tags.proofs.Compared.{same-lengths}
-use Rattle.text_read.specs.Levels.{mark_of}
+use Rattle.text_read.specs.Levels.{mark_of, level_listed}
 
 -- ---- a value's mark
 
@@ -68,6 +68,11 @@ module _ (l : List ℕ) (p : List (List ℕ)) (kind mark number : ℕ) (k : kind
       go t v true b = refl
       go t v false true = refl
       go t v false false = refl
+
+  -- and its names are listed if its numbers are not 0
+  pub level-listed : not (eqb kind 0) && (not (eqb mark 1) || not (eqb number 0)) ≡ level_listed l p
+  unfolding level_listed
+  level-listed = rw (← level-made)
 
 -- ---- the fault of a value
 

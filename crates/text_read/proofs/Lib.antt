@@ -3,6 +3,7 @@ pub mod LevelMarks
 pub mod LevelLaws
 pub mod LevelPieces
 pub mod LevelTurns
+pub mod TurnLooks
 pub mod StandsNow
 pub mod StandsKept
 pub mod TurnPlaces

@@ -3,19 +3,26 @@
 use Prim.Native.Nat.{ℕ, ◌<◌}
 use native.Mathlib.Omega.{arith}
 use mathlib.Core.Path.{◌≡◌, refl}
+use mathlib.Core.Bool.{Bool, true, false, not, ◌&&◌}
 use mathlib.Core.List.{List}
 use mathlib.Core.Option as math
+use borrow.Author.Tests.{ne_eqb}
+use lib.Dec.{eqb, leb}
 use Rattle.std.specs.Prelude.{Option, Some, None, IfOk}
 use Rattle.std.specs.Option.{ok_or}
+use Rattle.words.specs.First.{◌or_else◌, unless}
 use Rattle.word_laws.proofs.Bytes.{Byte}
 use Rattle.word_laws.proofs.Every.{Every}
+use Rattle.format.specs.Answer.{refusal}
+use Rattle.format.specs.Layout.{highest_role}
+use Rattle.format.specs.Rule.{full_privilege}
 use Rattle.format.specs.Code.{text_fault_of}
 use Rattle.format.specs.declared.answer.TextRefusal.TheVariants.{NotListed}
-use Rattle.xml.specs.Names.{number_of}
-use Rattle.xml.specs.Read.{listed, or_zero, privilege_of, role_of}
+use Rattle.xml.specs.Names.{role_names, operation_names, target_names, good_names, number_of}
+use Rattle.xml.specs.Read.{listed, within, or_zero, privilege_fault, privilege_of, role_fault, role_of}
 use Rattle.names.specs.Code.{number_found}
 use Rattle.names.proofs.LookUps.{number-found}
-use Rattle.names.proofs.Numbers.{number-to-65535}
+use Rattle.names.proofs.Numbers.{number-from-1, number-to-65535}
 use Rattle.drafts.specs.Draft.{PrivilegeFits}
 
 -- what was found, or else that the name is not listed
@@ -47,3 +54,36 @@ module _ (l : List ℕ) (fits : (k : ℕ) (w : List ℕ) → or_zero (number_of 
   pub role-fits : (v : List ℕ) → PrivilegeFits (role_of l v)
   unfolding role_of
   role-fits v = (fits 3 v, omega arith)
+
+-- two tests in a row with one answer are one test
+pub unless-both : {A : Type 0} (x y : Bool) (a : A) → unless x a or_else unless y a ≡ unless (x && y) a
+unfolding unless ◌or_else◌
+unless-both true y a = refl
+unless-both false y a = refl
+
+-- ---- in a good list
+
+module _ (l : List ℕ) (good : good_names l ≡ true) where
+  -- a name is listed unless its number is 0
+  pub listed-unless : (k : ℕ) (w : List ℕ) → listed (number_of l k w) ≡ unless (not (eqb (or_zero (number_of l k w)) 0)) (refusal 42 0 0)
+  unfolding listed unless or_zero
+  listed-unless k w = go (number_of l k w) refl
+    where
+      go : (o : math.Option ℕ) → number_of l k w ≡ o → listed o ≡ unless (not (eqb (or_zero o) 0)) (refusal 42 0 0)
+      go math.none e = refl
+      go (math.some n) e = rw (ne_eqb n 0 (number-from-1 l k n w good (number-found l k n w e)))
+
+  -- a privilege is without a fault if both its numbers are from 1
+  pub privilege-fault : (o t : List ℕ) → privilege_fault l o t ≡ unless (full_privilege (privilege_of l o t)) (refusal 42 0 0)
+  unfolding privilege_fault privilege_of
+  privilege-fault o t =
+      rw (listed-unless operation_names o, listed-unless target_names t)
+      (unless-both (not (eqb (or_zero (number_of l operation_names o)) 0)) (not (eqb (or_zero (number_of l target_names t)) 0)) (refusal 42 0 0))
+
+  -- a role is without a fault if its number is from 1 to 32
+  pub role-fault :
+      (v : List ℕ)
+      → role_fault l v
+      ≡ unless (not (eqb (or_zero (number_of l role_names v)) 0)) (refusal 42 0 0) or_else within (leb (or_zero (number_of l role_names v)) highest_role)
+  unfolding role_fault
+  role-fault v = rw (listed-unless role_names v)

@@ -1,8 +1,9 @@
 -- A privilege in its place: what its tag tests and what it leaves.
 -- Assumes nothing.
 use Prim.Native.Nat.{ℕ}
-use mathlib.Core.Path.{◌≡◌, refl}
+use mathlib.Core.Path.{◌≡◌, refl, sym, subst}
 use mathlib.Core.List.{List}
+use Rattle.format.specs.Rule.{Privilege}
 use Rattle.xml.specs.Read.{Reading, tag_fault, after_tag, privilege_fault, privilege_of}
 use Rattle.tags.specs.Code.{privilege_as}
 use Rattle.tags.specs.declared.tag.Place.{Place}
@@ -25,3 +26,9 @@ unfolding after_tag
 place-now First l s o u h = h
 place-now Last l s o u h = h
 place-now Member l s o u h = h
+
+-- a place that is known
+pub at_place :
+    {p q : Place} → p ≡ q → (s : Reading) (v : Privilege) {t : List ℕ} {sheet : Sheet} → Stands t (with_privilege q s v) sheet
+    → Stands t (with_privilege p s v) sheet
+at_place is s v {t} {sheet} = subst (λ (y : Place). Stands t (with_privilege y s v) sheet) (sym is)

@@ -83,7 +83,11 @@ impl Sheet {
         requires { InText text.now m }
         ensures { (t : List ℕ) (s : Reading) → Stands t s self.old → Stands t (in_exclusion s (new_members (exclusion_code kind) (decimal (value_at text.now m)))) self.new }
     {
-        start_exclusion(&mut self.exclusion, kind, cardinality(text, m.from, m.to));
+        start_exclusion(
+            &mut self.exclusion,
+            kind.code(),
+            cardinality(text, m.from, m.to),
+        );
     }
 
     // A role is a member.

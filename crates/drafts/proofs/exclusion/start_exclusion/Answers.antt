@@ -8,7 +8,6 @@ use Rattle.drafts.proofs.exclusion.start_exclusion.Goals as goal
 
 pub returns : goal.returns
 returns c =
-    let k = c.code.result in
+    let k = c.args.kind in
     let m = c.args.m in
-    rw (← c.code.ensures)
-    (ap (λ (b : List ℕ). set (set b 56 k) 57 m) (c.no_exclusion.ensures ∙ sym (begun 0 0 (omega arith))) ∙ begun k m (omega arith))
+    ap (λ (b : List ℕ). set (set b 56 k) 57 m) (c.no_exclusion.ensures ∙ sym (begun 0 0 (omega arith))) ∙ begun k m (omega arith)

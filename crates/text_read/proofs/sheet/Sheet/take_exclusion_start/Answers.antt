@@ -15,5 +15,8 @@ returns c =
     let m = decimal (value_at a.text.now a.m) in
     λ t s h.
     exclusion-now h (new_members k m)
-    (c.start_exclusion.ensures ∙ ap (λ (n : ℕ). exclusion_block (new_members k n)) c.cardinality.ensures ∙ begun-capped k m)
+    (c.start_exclusion.ensures
+    ∙ ap (λ (q : ℕ). exclusion_block (new_members q c.cardinality.result)) c.code.ensures
+    ∙ ap (λ (n : ℕ). exclusion_block (new_members k n)) c.cardinality.ensures
+    ∙ begun-capped k m)
     (none-fit k m (code-fits a.kind))
