@@ -1,9 +1,10 @@
 // Step 1 of the judge: some active role has the permission for operation and target.
 ghost use Rattle.std.specs.Prelude.{◌≡◌, ◌<◌, ◌≤◌};
+ghost use Rattle.std.proofs.Math.Option.{none};
 ghost use Rattle.words.specs.Lists.{any_of};
 ghost use Rattle.format.specs.Layout.{most_entries, highest_role, permission_kind};
 ghost use Rattle.format.specs.Block.{blocks, kind};
-ghost use Rattle.format.specs.Policy.{policy_of, permission_at, permissions_at};
+ghost use Rattle.format.specs.Policy.{policy_fault, policy_of, permission_at, permissions_at};
 ghost use Rattle.judge.specs.Verdict.{grants as grants_of, permitted as permitted_by};
 ghost use Rattle.verdict.specs.Code.{entries_of, EntriesFit};
 
@@ -16,7 +17,6 @@ use fields::number::Role;
 use fields::privilege::Privilege;
 use fields::request;
 use fields::tables::block;
-use policy_check::policy::Policy;
 
 // Entry i of a permission block grants the request: one of its roles, its operation and its target.
 fn grants(b: &[u8; BLOCK_BYTES], i: usize, q: &[u8; REQUEST_BYTES]) -> bool
@@ -42,17 +42,19 @@ fn block_permits(b: &[u8; BLOCK_BYTES], q: &[u8; REQUEST_BYTES]) -> bool
 }
 
 // Some entry of block k of a policy does.
-fn permits_at(policy: &Policy<'_>, k: usize, q: &[u8; REQUEST_BYTES]) -> bool
-    requires { k < blocks policy.now.image.now }
-    ensures { result ≡ any_of (grants_of q.now) (permissions_at policy.now.image.now k) }
+fn permits_at(policy: &[u8], k: usize, q: &[u8; REQUEST_BYTES]) -> bool
+    requires accepted { policy_fault policy.now ≡ none }
+    requires k_bound { k < blocks policy.now }
+    ensures { result ≡ any_of (grants_of q.now) (permissions_at policy.now k) }
 {
-    block_permits(block(policy.image, k), q)
+    block_permits(block(policy, k), q)
 }
 
 // Some active role has the permission for operation and target.
-pub fn permitted(policy: &Policy<'_>, q: &[u8; REQUEST_BYTES]) -> bool
-    ensures { result ≡ permitted_by (policy_of policy.now.image.now) q.now }
+pub fn permitted(policy: &[u8], q: &[u8; REQUEST_BYTES]) -> bool
+    requires { policy_fault policy.now ≡ none }
+    ensures { result ≡ permitted_by (policy_of policy.now) q.now }
 {
-    let n = policy.image.len() / BLOCK_BYTES;
+    let n = policy.len() / BLOCK_BYTES;
     (0..n).any(|k| permits_at(policy, k, q))
 }

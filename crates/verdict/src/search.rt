@@ -12,10 +12,10 @@ use fields::layout::{
     BLOCK_BYTES, EXCLUSION_BYTES, EXCLUSION_KIND_AT, EXCLUSIONS_AT, OF_ROLES, REQUEST_BYTES,
 };
 use fields::sets::RuleSet;
+use fields::tables::block;
 use format::answer::Refusal;
 use history::pasts::past_of;
 use matching::masks::Each;
-use policy_check::policy::Policy;
 use tally::deed::Deed;
 use tally::tallies::reaches;
 
@@ -39,17 +39,17 @@ fn refused_by(b: &[u8; BLOCK_BYTES], i: u32, e: usize) -> Refusal
 
 // The search. `found` has the user's records that may count; of these, what was done under each rule is put down in `room`.
 pub fn search(
-    policy: &Policy<'_>,
+    policy: &[u8],
     judging: Judging,
     q: &[u8; REQUEST_BYTES],
     table: &[u8],
     found: &[u16],
     room: &mut [Deed],
 ) -> Result<(), Refusal>
-    requires judging_rules { JudgingRules policy.now.image.now judging.rules.0 }
+    requires judging_rules { JudgingRules policy.now judging.rules.0 }
     requires room_len { (length found.now ≤ length room.old) × (length found.now ≤ capacity table_blocks) }
     requires by_index { (j : ℕ) → j < length found.now → get_or found.now j 0 + record_bytes ≤ length table.now }
-    ensures { fault_of result ≡ first (rule_fails policy.now.image.now judging.rules.0 judging.each q.now table.now found.now) 0 most_rules }
+    ensures { fault_of result ≡ first (rule_fails policy.now judging.rules.0 judging.each q.now table.now found.now) 0 most_rules }
 {
     let mut i = 0u32;
     'rules: loop {
@@ -61,7 +61,7 @@ pub fn search(
             i += 1;
             continue 'rules;
         }
-        let b = policy.rule(i);
+        let b = block(policy, i as usize);
         let count = past_of(judging.each, i, q, table, found, room);
         let past = &room[..count];
         for e in 0..usize::from(b[EXCLUSIONS_AT]) {

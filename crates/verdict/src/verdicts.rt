@@ -56,7 +56,7 @@ fn searched_in<const N: usize>(
     ensures { fault_of result ≡ first (rule_fails policy.now.image.now judging.rules.0 judging.each q.now table.now found.now) 0 most_rules }
 {
     let mut room = [Deed::NONE; N];
-    search(policy, judging, q, table, found, &mut room)
+    search(policy.image, judging, q, table, found, &mut room)
 }
 
 // The search, by how many records may count: most users have few, and do not pay for the room that many take.
@@ -128,7 +128,7 @@ pub fn verdict_of(
     requires has_room { HasRoom table.now n }
     ensures { VerdictIs (policy_of policy.now.image.now) each table.now n q.now result }
 {
-    if !permitted(policy, q) {
+    if !permitted(policy.image, q) {
         return Err(Refusal::NotPermitted);
     }
     let matched = match_rules(policy, q);

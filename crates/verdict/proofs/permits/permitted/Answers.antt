@@ -12,7 +12,7 @@ use Rattle.verdict.proofs.permits.permitted.Goals as goal
 
 pub returns : goal.returns
 returns c =
-    let s = c.args.policy.now.image.now in
+    let s = c.args.policy.now in
     let q = c.args.q.now in
     let n = blocks s in
     any_from_yields_List (λ (k : ℕ). any_of (grants q) (permissions_at s k)) _ _ _ c.any.ensures.ran

@@ -11,6 +11,7 @@ use Rattle.format.specs.Policy.{rule_count}
 use Rattle.judge.specs.Tally.{reached}
 use Rattle.history.specs.Code.{past_by}
 use Rattle.history.proofs.Standing.{past-small}
+use Rattle.format_laws.proofs.AcceptedPolicy.{rule-inside}
 use Rattle.verdict.proofs.AcceptedEntries.{exclusion-ready}
 use Rattle.verdict.proofs.Nested.{row-hit, row_more, row_done}
 use Rattle.verdict.proofs.Searching.{fails_at, counts, few-rules, rules-none, rule-silent, rule-judges, exclusion-fails, exclusion-passes}
@@ -33,7 +34,7 @@ rules-preserved-then-not-has c =
     let r = c.rules in
     let l = low (goal.at.rules-preserved-then-not-has c).Else-none_from in (
       omega (arith, l),
-      rule-silent a.policy.now.image.now a.judging.rules.0 a.judging.each a.q.now a.table.now a.found.now r.i r.invariant.1 l
+      rule-silent a.policy.now a.judging.rules.0 a.judging.each a.q.now a.table.now a.found.now r.i r.invariant.1 l
           (sym c.has.ensures ∙ c.if-not-has.true),
     )
 
@@ -45,11 +46,11 @@ module _ (c : Else-not-has) where
   judges : bit c.rules.i c.args.judging.rules.0 ≡ true
   judges = sym c.has.ensures ∙ c.if-not-has.false
 
-  below : c.rules.i < rule_count c.args.policy.now.image.now
+  below : c.rules.i < rule_count c.args.policy.now
   below = c.requires.judging_rules.below c.rules.i judges
 
-pub rule-b-requires : goal.rule-b-requires
-rule-b-requires c = let p = c.args.policy.now in omega (arith, p.rules_are, below (goal.at.rule-b-requires c).Else-not-has)
+pub block-b-requires : goal.block-b-requires
+block-b-requires c = rule-inside c.args.policy.now c.requires.judging_rules.accepted c.rules.i (below (goal.at.block-b-requires c).Else-not-has)
 
 pub past_of-count-requires-clause-i_bound : goal.past_of-count-requires-clause-i_bound
 past_of-count-requires-clause-i_bound c = (low (goal.at.past_of-count-requires-clause-i_bound c).Else-none_from, omega (arith, c.requires.room_len.0, c.rules.auto.room))
@@ -58,14 +59,13 @@ pub loop-e-init : goal.loop-e-init
 loop-e-init c =
     let a = c.args in
     let r = c.rules in
-    rule-judges a.policy.now.image.now a.judging.rules.0 a.judging.each a.q.now a.table.now a.found.now r.i r.invariant.1 (low (goal.at.loop-e-init c).Else-none_from)
-    _ c.from-e-end.result (judges (goal.at.loop-e-init c).Else-not-has) c.rule-b.ensures c.from-e-end.ensures
+    rule-judges a.policy.now a.judging.rules.0 a.judging.each a.q.now a.table.now a.found.now r.i r.invariant.1 (low (goal.at.loop-e-init c).Else-none_from)
+    _ c.from-e-end.result (judges (goal.at.loop-e-init c).Else-not-has) c.block-b.ensures c.from-e-end.ensures
 
 -- the exclusion at hand is one of the rule's
-ready : (c : In-loop-e) → (c.loop-e.e < most_exclusions) × (good_exclusion (exclusion_at c.rule-b.result.now c.loop-e.e) ≡ true)
+ready : (c : In-loop-e) → (c.loop-e.e < most_exclusions) × (good_exclusion (exclusion_at c.block-b.result.now c.loop-e.e) ≡ true)
 ready c =
-    let p = c.args.policy.now in
-    exclusion-ready p.image.now p.accepted _ c.rules.i c.loop-e.e c.from-e-end.result (below (goal.at.In-loop-e c).Else-not-has) c.rule-b.ensures c.from-e-end.ensures c.loop-e-test.true
+    exclusion-ready c.args.policy.now c.requires.judging_rules.accepted _ c.rules.i c.loop-e.e c.from-e-end.result (below (goal.at.In-loop-e c).Else-not-has) c.block-b.ensures c.from-e-end.ensures c.loop-e-test.true
 
 pub reaches-requires-clause-e_bound : goal.reaches-requires-clause-e_bound
 reaches-requires-clause-e_bound c = ready c
@@ -75,7 +75,7 @@ refused_by-requires c = (low (goal.at.refused_by-requires c).Else-none_from, (re
 
 -- what the tally has said of it
 reached-is : (c : After-reaches) → let a = c.args in
-    c.reaches.result ≡ reached (exclusion_at c.rule-b.result.now c.loop-e.e) (counts a.judging.each a.q.now a.table.now a.found.now c.rules.i)
+    c.reaches.result ≡ reached (exclusion_at c.block-b.result.now c.loop-e.e) (counts a.judging.each a.q.now a.table.now a.found.now c.rules.i)
 reached-is c =
     let a = c.args in
     c.reaches.ensures (past_by a.judging.each a.q.now c.rules.i a.table.now a.found.now) c.past_of-count.ensures.1
@@ -86,8 +86,8 @@ loop-e-preserved c =
     let a = c.args in
     let i = c.rules.i in
     let l = c.loop-e in
-    let s = a.policy.now.image.now in
-    let b = c.rule-b.result.now in
+    let s = a.policy.now in
+    let b = c.block-b.result.now in
     let qs = counts a.judging.each a.q.now a.table.now a.found.now i in
     row_more (fails s a.judging a.q.now a.table.now a.found.now) (fails_at b i qs) i most_rules l.e c.from-e-end.result l.invariant c.loop-e-test.true
     (exclusion-passes s b i l.e qs c.reaches.result (reached-is (goal.at.loop-e-preserved c).After-reaches) c.if-reaches.false)
@@ -98,7 +98,7 @@ rules-preserved c =
     let i = c.rules.i in
     let l = c.loop-e in (
       omega (arith, low (goal.at.rules-preserved c).Else-none_from),
-      row_done (fails a.policy.now.image.now a.judging a.q.now a.table.now a.found.now) (fails_at c.rule-b.result.now i (counts a.judging.each a.q.now a.table.now a.found.now i)) i most_rules l.e c.from-e-end.result l.invariant c.loop-e-test.false,
+      row_done (fails a.policy.now a.judging a.q.now a.table.now a.found.now) (fails_at c.block-b.result.now i (counts a.judging.each a.q.now a.table.now a.found.now i)) i most_rules l.e c.from-e-end.result l.invariant c.loop-e-test.false,
     )
 
 pub rules-smaller : goal.rules-smaller
@@ -108,15 +108,15 @@ pub returns-then-none_from : goal.returns-then-none_from
 returns-then-none_from c =
     let a = c.args in
     let r = c.rules in
-    rules-none a.policy.now.image.now a.judging.rules.0 a.judging.each a.q.now a.table.now a.found.now r.i r.invariant.1 (sym c.none_from.ensures ∙ c.if-none_from.true)
+    rules-none a.policy.now a.judging.rules.0 a.judging.each a.q.now a.table.now a.found.now r.i r.invariant.1 (sym c.none_from.ensures ∙ c.if-none_from.true)
 
 pub returns-then-reaches : goal.returns-then-reaches
 returns-then-reaches c =
     let a = c.args in
     let i = c.rules.i in
     let l = c.loop-e in
-    let s = a.policy.now.image.now in
-    let b = c.rule-b.result.now in
+    let s = a.policy.now in
+    let b = c.block-b.result.now in
     let qs = counts a.judging.each a.q.now a.table.now a.found.now i in
     ap {B = Option Refusal} some c.refused_by.ensures
     ∙ row-hit (fails s a.judging a.q.now a.table.now a.found.now) (fails_at b i qs) i most_rules l.e c.from-e-end.result l.invariant c.loop-e-test.true

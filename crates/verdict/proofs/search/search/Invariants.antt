@@ -21,11 +21,11 @@ whole policy judging q table found = first (fails policy judging q table found) 
 
 abbrev pub invariant-loop-e : goal.invariant-loop-e
 invariant-loop-e l =
-    left (fails l.policy.image.now l.judging l.q l.table l.found) (fails_at l.b l.i (counts l.judging.each l.q l.table l.found l.i)) l.i most_rules l.e l.e-end ≡ whole l.policy.image.now l.judging l.q l.table l.found
+    left (fails l.policy l.judging l.q l.table l.found) (fails_at l.b l.i (counts l.judging.each l.q l.table l.found l.i)) l.i most_rules l.e l.e-end ≡ whole l.policy l.judging l.q l.table l.found
 
 abbrev pub invariant-rules : goal.invariant-rules
 invariant-rules l =
-    (l.i ≤ most_rules) × (first (fails l.policy.image.now l.judging l.q l.table l.found) l.i (most_rules - l.i) ≡ whole l.policy.image.now l.judging l.q l.table l.found)
+    (l.i ≤ most_rules) × (first (fails l.policy l.judging l.q l.table l.found) l.i (most_rules - l.i) ≡ whole l.policy l.judging l.q l.table l.found)
 
 abbrev pub decreases-rules : goal.decreases-rules
 decreases-rules l = most_rules - l.i
