@@ -6,10 +6,13 @@ use native.Mathlib.Numerals.{add-one}
 use mathlib.Core.Path.{◌≡◌, refl, sym, ap, ◌∙◌}
 use mathlib.Core.Bool.{Bool, true, false, cond}
 use mathlib.Core.List.{List, [], ◌∷◌, ◌++◌, map}
-use mathlib.Core.Option.{none, some}
+use mathlib.Core.Option.{Option, none, some}
+use Rattle.std.specs.Prelude.{Result, Ok, Err, IfOk}
+use Rattle.std.specs.Result.{result_and}
 use Rattle.words.specs.First.{◌or_else◌}
-use Rattle.word_laws.proofs.First.{none-or_else}
 use Rattle.format.specs.Answer.{Refusal}
+use Rattle.format.specs.Code.{text_fault_of}
+use Rattle.format.specs.declared.answer.TextRefusal.{TextRefusal}
 use borrow.Author.Tests.{ltb-true, ltb-false, le-leb, lt-leb}
 use lib.ListN.{length, get_or, take, drop, length-map, length-take, length-drop}
 use lib.Dec.{leb, ltb}
@@ -82,40 +85,54 @@ module _ {A : Type 0} (xs : List A) (n : ℕ) (x : A) (ys : List A) (e : drop n 
 
 -- ---- the loop
 
--- the first n levels were read, and their names are listed: the block with them, what is left, and that its first fault is that of all
-pub record Taken (l t : List ℕ) (s : Span) (d₀ d : List ℕ) (n at : ℕ) : Type 0 where
+-- two results in a row have one first fault, and so has the one by itself
+both-first : (q r : Result (Unit {0}) TextRefusal) (o : Option Refusal) → text_fault_of q or_else (text_fault_of r or_else o) ≡ text_fault_of (result_and q r) or_else o
+unfolding ◌or_else◌
+both-first (Ok x) r o = refl
+both-first (Err e) r o = refl
+
+first-alone : (o : Option Refusal) → o or_else none ≡ o
+unfolding ◌or_else◌
+first-alone none = refl
+first-alone (some r) = refl
+
+-- the first n levels were read, and whether their names are listed: the block with them, what is left, and that the first fault of both is that of all
+pub record Taken (l t : List ℕ) (s : Span) (d₀ d : List ℕ) (named : Result (Unit {0}) TextRefusal) (n at : ℕ) : Type 0 where
   pub few : n ≤ length (level_texts (value_at t s))
   pub left : drop n (level_texts (value_at t s)) ≡ levels_from t at s.to
-  pub names : first_of (level_fault l) (level_texts (value_at t s)) ≡ first_of (level_fault l) (levels_from t at s.to)
+  pub names : first_of (level_fault l) (level_texts (value_at t s)) ≡ text_fault_of named or_else first_of (level_fault l) (levels_from t at s.to)
   pub block : (dr : Draft) → d₀ ≡ draft_block [] dr → d ≡ draft_block (map (level_of l) (take n (level_texts (value_at t s)))) dr
 
 module _ (l t : List ℕ) (s : Span) (d₀ : List ℕ) where
   -- none was, at the beginning
-  pub taken_start : s.from ≤ s.to → (length (value_at t s) ≡ 0 → ⊥) → Taken l t s d₀ d₀ 0 s.from
+  pub taken_start : s.from ≤ s.to → (length (value_at t s) ≡ 0 → ⊥) → Taken l t s d₀ d₀ (Ok tt) 0 s.from
+  unfolding ◌or_else◌
   taken_start h more =
       let left = from_start t s h more in
       record { few = omega arith; left = left; names = ap (first_of (level_fault l)) left; block = λ dr e. e }
 
   module _
-      {d : List ℕ} {n at e : ℕ} (x : Taken l t s d₀ d n at) (h : at ≤ s.to) (k : s.to ≤ length t) (end : e ≡ at + until 44 (span t at s.to)) (low : e ≤ s.to) where
+      {d : List ℕ} {named : Result (Unit {0}) TextRefusal} {n at e : ℕ} (x : Taken l t s d₀ d named n at) (h : at ≤ s.to) (k : s.to ≤ length t)
+      (end : e ≡ at + until 44 (span t at s.to)) (low : e ≤ s.to) where
     next-fault :
         first_of (level_fault l) (level_texts (value_at t s))
-        ≡ level_fault l (parted 61 (squeezed (span t at e))) or_else first_of (level_fault l) (levels_from t (suc e) s.to)
+        ≡ text_fault_of named or_else (level_fault l (parted 61 (squeezed (span t at e))) or_else first_of (level_fault l) (levels_from t (suc e) s.to))
     unfolding first_of
-    next-fault = x.names ∙ ap (first_of (level_fault l)) (from_more t at s.to e h k end low)
+    next-fault = x.names ∙ ap (λ ps. text_fault_of named or_else first_of (level_fault l) ps) (from_more t at s.to e h k end low)
 
-    -- the next has a fault: it is the first
-    pub taken-fault : {f : Refusal} → some f ≡ level_fault l (parted 61 (squeezed (span t at e))) → some f ≡ first_of (level_fault l) (level_texts (value_at t s))
+    -- the next has a fault: it is the first, where none was before it
+    pub taken-fault : named ≡ Ok tt → {f : Refusal} → some f ≡ level_fault l (parted 61 (squeezed (span t at e)))
+        → some f ≡ first_of (level_fault l) (level_texts (value_at t s))
     unfolding ◌or_else◌
-    taken-fault is = sym (next-fault ∙ rw (← is) refl)
+    taken-fault good is = sym (next-fault ∙ rw (good, ← is) refl)
 
     -- one more is read
     pub taken_more :
-        {d' : List ℕ} → none ≡ level_fault l (parted 61 (squeezed (span t at e)))
+        {d' : List ℕ} (r : Result (Unit {0}) TextRefusal) → text_fault_of r ≡ level_fault l (parted 61 (squeezed (span t at e)))
         → ((ls : List Level) (dr : Draft) → length ls ≡ n → d ≡ draft_block ls dr
         → d' ≡ draft_block (ls ++ level_of l (parted 61 (squeezed (span t at e))) ∷ []) dr)
-        → Taken l t s d₀ d' (n + 1) (e + 1)
-    taken_more good put =
+        → Taken l t s d₀ d' (result_and named r) (n + 1) (e + 1)
+    taken_more r is put =
         let ps = level_texts (value_at t s) in
         let p = parted 61 (squeezed (span t at e)) in
         let rest = levels_from t (suc e) s.to in
@@ -126,23 +143,30 @@ module _ (l t : List ℕ) (s : Span) (d₀ : List ℕ) where
         record {
           few = omega arith;
           left = rw (add-one e) (left-more ps n p rest next);
-          names = rw (add-one e) (next-fault ∙ none-or_else _ _ (sym good));
+          names =
+              rw (add-one e)
+              (next-fault
+              ∙ ap (λ o. text_fault_of named or_else (o or_else first_of (level_fault l) rest)) (sym is)
+              ∙ both-first named r (first_of (level_fault l) rest));
           block = λ dr f. put (map (level_of l) (take n ps)) dr long (x.block dr f) ∙ rw (front, map-append (level_of l) (take n ps) (p ∷ []));
         }
 
   -- all were, behind the end
   pub taken-end :
-      {d : List ℕ} {n at : ℕ} → Taken l t s d₀ d n at → s.to < at
-      → (none ≡ first_of (level_fault l) (level_texts (value_at t s))) × (n ≡ length (level_texts (value_at t s)))
+      {d : List ℕ} {named : Result (Unit {0}) TextRefusal} {n at : ℕ} → Taken l t s d₀ d named n at → s.to < at
+      → (text_fault_of named ≡ first_of (level_fault l) (level_texts (value_at t s))) × (n ≡ length (level_texts (value_at t s)))
       × ((dr : Draft) → d₀ ≡ draft_block [] dr → d ≡ draft_block (map (level_of l) (level_texts (value_at t s))) dr)
   unfolding first_of
-  taken-end {d} {n} {at} x h =
+  taken-end {d} {named} {n} {at} x h =
       let ps = level_texts (value_at t s) in
       let none = ap (λ (p : List (List (List ℕ))). length p) (x.left ∙ from_end t at s.to h) in
       let gone = length-drop n ps in
       let all : n ≡ length ps = omega (arith, x.few) in
-      let whole : take n ps ≡ ps = take_all n ps (omega arith) in
-      (sym (x.names ∙ ap (first_of (level_fault l)) (from_end t at s.to h)), all, λ dr e. x.block dr e ∙ rw whole)
+      let whole : take n ps ≡ ps = take_all n ps (omega arith) in (
+        sym (x.names ∙ ap (λ qs. text_fault_of named or_else first_of (level_fault l) qs) (from_end t at s.to h) ∙ first-alone (text_fault_of named)),
+        all,
+        λ dr e. x.block dr e ∙ rw whole,
+      )
 
 -- a blank context has no level
 pub taken_none :
@@ -152,3 +176,12 @@ pub taken_none :
 unfolding level_texts first_of
 taken_none l [] d h = (refl, refl, λ dr e. e)
 taken_none l (b ∷ v) d h = absurd (omega arith)
+
+-- what is told of all, with their number
+pub counted-fault : (q : Result (Unit {0}) TextRefusal) (n : ℕ) {r : Result ℕ TextRefusal} → r ≡ result_and q (Ok n) → text_fault_of r ≡ text_fault_of q
+counted-fault (Ok x) n e = rw e refl
+counted-fault (Err f) n e = rw e refl
+
+pub counted-depth : (q : Result (Unit {0}) TextRefusal) (n : ℕ) {r : Result ℕ TextRefusal} {m : ℕ} → r ≡ result_and q (Ok n) → n ≡ m → IfOk r (λ k. k ≡ m)
+counted-depth (Ok x) n e h = rw e h
+counted-depth (Err f) n e h = rw e tt

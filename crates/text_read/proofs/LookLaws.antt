@@ -6,10 +6,12 @@ use mathlib.Core.Path.{◌≡◌, refl}
 use mathlib.Core.Bool.{Bool, true, false, not, ◌&&◌}
 use mathlib.Core.List.{List}
 use mathlib.Core.Option as math
+use mathlib.Core.Option.{some-ne-none}
 use borrow.Author.Tests.{ne_eqb}
 use lib.Dec.{eqb, leb}
-use Rattle.std.specs.Prelude.{Option, Some, None, IfOk}
+use Rattle.std.specs.Prelude.{Option, Some, None, Result, Ok, Err, IfOk}
 use Rattle.std.specs.Option.{ok_or}
+use Rattle.std.specs.Result.{result_unwrap_or, result_and}
 use Rattle.words.specs.First.{◌or_else◌, unless}
 use Rattle.word_laws.proofs.Bytes.{Byte}
 use Rattle.word_laws.proofs.Every.{Every}
@@ -17,6 +19,7 @@ use Rattle.format.specs.Answer.{refusal}
 use Rattle.format.specs.Layout.{highest_role}
 use Rattle.format.specs.Rule.{full_privilege}
 use Rattle.format.specs.Code.{text_fault_of}
+use Rattle.format.specs.declared.answer.TextRefusal.{TextRefusal}
 use Rattle.format.specs.declared.answer.TextRefusal.TheVariants.{NotListed}
 use Rattle.xml.specs.Names.{role_names, operation_names, target_names, good_names, number_of}
 use Rattle.xml.specs.Read.{listed, within, or_zero, privilege_fault, privilege_of, role_fault, role_of}
@@ -35,6 +38,21 @@ pub looked-number : (o : Option ℕ) (m : math.Option ℕ) → number_found o �
 unfolding or_zero
 looked-number None m e = tt
 looked-number (Some n) m e = rw (← e) refl
+
+-- the number of a look-up, 0 where it is an error
+pub looked-or-zero : (r : Result ℕ TextRefusal) (o : math.Option ℕ) → text_fault_of r ≡ listed o → IfOk r (λ n. n ≡ or_zero o) → result_unwrap_or r 0 ≡ or_zero o
+unfolding listed or_zero
+looked-or-zero (Ok n) o f k = k
+looked-or-zero (Err e) math.none f k = refl
+looked-or-zero (Err e) (math.some n) f k = absurd (some-ne-none _ f)
+
+-- the first fault of two look-ups
+pub both-looked : (q r : Result ℕ TextRefusal) {u : Result ℕ TextRefusal} {v : Result (Unit {0}) TextRefusal} → u ≡ result_and q r → v ≡ result_and u (Ok tt)
+    → text_fault_of v ≡ text_fault_of q or_else text_fault_of r
+unfolding ◌or_else◌
+both-looked (Ok m) (Ok n) e f = rw (f, e) refl
+both-looked (Ok m) (Err x) e f = rw (f, e) refl
+both-looked (Err x) r e f = rw (f, e) refl
 
 -- a name's number fits two bytes
 pub number_fits : (l : List ℕ) → Every Byte l → (k : ℕ) (w : List ℕ) → or_zero (number_of l k w) < 65536

@@ -37,7 +37,9 @@ pub fn read_text(
         room: output.len(),
     };
     let mut sheet = Sheet::new();
-    sheet.read_tags(&source, end)?;
+    // A tag's fault comes first: its tag ends before the byte that the form does not have.
+    let read = sheet.read_tags(&source, end);
+    read?;
     if let Err(Misfit(at)) = reached {
         return Err(TextRefusal::Misfit(at));
     }

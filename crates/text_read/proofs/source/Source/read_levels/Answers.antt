@@ -1,10 +1,9 @@
 use native.Mathlib.Omega.{arith}
-use mathlib.Core.Path.{sym, ◌∙◌}
+use mathlib.Core.Path.{◌≡◌, refl, sym, ap, ◌∙◌}
 use borrow.Author.Tests.{eqb-true, eqb-false}
 use lib.ListN.{length}
-use Rattle.std.proofs.lemmas.Result.{err_from_is_err_and}
 use Rattle.tags.specs.Code.{value_at}
-use Rattle.text_read.proofs.LevelTurns.{taken_start, taken-fault, taken_more, taken-end, taken_none}
+use Rattle.text_read.proofs.LevelTurns.{taken_start, taken_more, taken-end, taken_none, counted-fault, counted-depth}
 use Rattle.text_read.proofs.source.Source.read_levels.Goals as goal
 
 pub returns-then-blank : goal.returns-then-blank
@@ -22,25 +21,23 @@ loop-at-init c =
       taken_start t.names.list.now t.text.now c.args.context c.args.d.now c.requires.0 (eqb-false (length v) 0 (sym c.blank.ensures ∙ c.if-blank.false)),
     )
 
-pub returns-in_err-read_level-clause-fault : goal.returns-in_err-read_level-clause-fault
-returns-in_err-read_level-clause-fault c =
-    let p = err_from_is_err_and c.from_residual.result c.from_residual.ensures.1 in
-    let t = c.args.self.now in
-    rw (p.1, p.2)
-    (taken-fault t.names.list.now t.text.now c.args.context c.args.d.now c.loop-at.invariant.1 c.loop-at-test.true c.requires.1 c.until-end.ensures.0
-    c.until-end.ensures.2 c.in_err-read_level.ensures.fault)
-
 pub loop-at-preserved : goal.loop-at-preserved
 loop-at-preserved c =
     let t = c.args.self.now in
-    let told = c.in_ok-read_level.ensures in (
+    let told = c.read_level-level.ensures in (
       omega arith,
-      taken_more t.names.list.now t.text.now c.args.context c.args.d.now c.loop-at.invariant.1 c.loop-at-test.true c.requires.1 c.until-end.ensures.0
-          c.until-end.ensures.2 told.fault told.level,
+      rw c.and-named.ensures
+          (taken_more t.names.list.now t.text.now c.args.context c.args.d.now c.loop-at.invariant.1 c.loop-at-test.true c.requires.1 c.until-end.ensures.0
+          c.until-end.ensures.2 c.read_level-level.result told.fault told.level),
     )
 
 pub returns : goal.returns
 returns c =
     let t = c.args.self.now in
-    let e = taken-end t.names.list.now t.text.now c.args.context c.args.d.now c.loop-at.invariant.1 c.loop-at-test.false in
-    record { fault = e.0; depth = e.1; levels = e.2 }
+    let l = c.loop-at in
+    let e = taken-end t.names.list.now t.text.now c.args.context c.args.d.now l.invariant.1 c.loop-at-test.false in
+    record {
+      fault = counted-fault l.named l.depth c.and.ensures ∙ e.0;
+      depth = counted-depth l.named l.depth c.and.ensures e.1;
+      levels = e.2;
+    }
