@@ -1,6 +1,6 @@
 -- What acceptance says of a policy's blocks: the entries of a permission block, and the exclusions of a rule.
 -- Assumes nothing.
-use Prim.Native.Nat.{ℕ, ◌≤◌, ◌<◌}
+use Prim.Native.Nat.{ℕ, ◌*◌, ◌≤◌, ◌<◌}
 use native.Mathlib.Omega.{arith}
 use mathlib.Core.Path.{◌≡◌, sym, ap, ◌∙◌}
 use mathlib.Core.Bool.{true, cond, ◌&&◌}
@@ -8,14 +8,16 @@ use mathlib.Core.List.{List}
 use mathlib.Core.Option.{none}
 use borrow.Author.Tests.{leb-true}
 use lib.Dec.{eqb, leb}
+use lib.ListN.{length}
 use Rattle.words.specs.Bytes.{byte_at}
 use Rattle.word_laws.proofs.First.{none_first, none-second, passes-unless, none-at}
 use Rattle.word_laws.proofs.Tests.{both_first, both-second}
-use Rattle.format.specs.Layout.{rule_kind, permission_kind, highest_role, most_entries, most_exclusions, exclusions_at}
+use Rattle.word_laws.proofs.Parts.{part_length}
+use Rattle.format.specs.Layout.{block_bytes, rule_kind, permission_kind, highest_role, most_entries, most_exclusions, exclusions_at}
 use Rattle.format.specs.Block.{blocks, block, kind}
 use Rattle.format.specs.Rule.{Rule, exclusion_at, rule_at, good_rule, good_exclusion, rule_fault}
 use Rattle.format.specs.Policy.{Permission, policy_fault, policy_block_fault, permission_fault, permission_at, good_permission, good_permission_bytes, entries, rule_count}
-use Rattle.format_laws.proofs.AcceptedPolicy.{rule-good, exclusion-good}
+use Rattle.format_laws.proofs.AcceptedPolicy.{rule-inside, rule-good, exclusion-good}
 use Rattle.verdict.specs.Code.{EntriesFit}
 
 -- an entry's role is 1 to 32
@@ -63,11 +65,12 @@ module _ (s : List ℕ) (accepted : policy_fault s ≡ none) where
   -- what the tally asks of exclusion e of rule i, whose block is b
   pub exclusion-ready :
       (b : List ℕ) (i e n : ℕ) → i < rule_count s → b ≡ block s i → n ≡ byte_at b exclusions_at → e < n
-      → (e < most_exclusions) × (good_exclusion (exclusion_at b e) ≡ true)
+      → (length b ≡ block_bytes) × (e < most_exclusions) × (good_exclusion (exclusion_at b e) ≡ true)
   unfolding rule_at
   exclusion-ready b i e n h f g l =
       let g' = rw f at g in
       rw f (
+        part_length s (512 * i) 512 (rule-inside s accepted i h),
         omega (arith, rule-exclusions (rule_at (block s i)) (rule-good s accepted i h)),
         exclusion-good s accepted i h e (omega arith),
       )

@@ -65,7 +65,8 @@ loop-e-init c =
 -- the exclusion at hand is one of the rule's
 ready : (c : In-loop-e) → (c.loop-e.e < most_exclusions) × (good_exclusion (exclusion_at c.block-b.result.now c.loop-e.e) ≡ true)
 ready c =
-    exclusion-ready c.args.policy.now c.requires.judging_rules.accepted _ c.rules.i c.loop-e.e c.from-e-end.result (below (goal.at.In-loop-e c).Else-not-has) c.block-b.ensures c.from-e-end.ensures c.loop-e-test.true
+    let e = exclusion-ready c.args.policy.now c.requires.judging_rules.accepted _ c.rules.i c.loop-e.e c.from-e-end.result (below (goal.at.In-loop-e c).Else-not-has) c.block-b.ensures c.from-e-end.ensures c.loop-e-test.true in
+    (e.1, e.2)
 
 pub reaches-requires-clause-e_bound : goal.reaches-requires-clause-e_bound
 reaches-requires-clause-e_bound c = ready c
