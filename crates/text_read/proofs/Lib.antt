@@ -6,6 +6,7 @@ pub mod LevelTurns
 pub mod TurnLooks
 pub mod StandsNow
 pub mod StandsKept
+pub mod TurnTags
 pub mod TurnPlaces
 pub mod TurnSet
 pub mod TurnRule

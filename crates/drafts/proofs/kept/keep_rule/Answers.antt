@@ -1,6 +1,6 @@
 use native.Mathlib.Omega.{arith}
 use Prim.Native.Nat.{◌*◌}
-use mathlib.Core.Path.{refl, ap, ◌∙◌}
+use mathlib.Core.Path.{ap, ◌∙◌}
 use lib.Seq.{take_all}
 use Rattle.table_write.specs.Writing.{over}
 use Rattle.drafts.proofs.kept.keep_rule.Goals as goal

@@ -1,13 +1,11 @@
 use Prim.Native.Nat.{ℕ}
 use mathlib.Core.Path.{◌≡◌, refl, sym, ap, ◌∙◌}
 use mathlib.Core.Bool.{cond}
-use mathlib.Core.Option.{Option, none}
+use mathlib.Core.Option.{none}
 use borrow.Author.Tests.{eq-eqb, ne_eqb}
 use lib.Dec.{eqb}
 use mathlib.Core.List.{List, [], ◌∷◌, ◌++◌}
 use Rattle.std.specs.Result.{result_unwrap_or}
-use Rattle.words.specs.First.{◌or_else◌}
-use Rattle.format.specs.Answer.{Refusal}
 use Rattle.format.specs.Code.{text_fault_of}
 use Rattle.format.specs.Rule.{Level}
 use Rattle.fields.specs.Code.{mark_code}
