@@ -20,6 +20,7 @@ use Rattle.std.specs.declared.result.Result.TheVariants.{Ok, Err}
 use Rattle.format.specs.declared.answer.TextRefusal.{TextRefusal}
 use Rattle.format.specs.declared.answer.TextRefusal.TheVariants.{NotListed}
 use Rattle.text_write.specs.Laid.{laid, Lays, Begun, Puts}
+use Rattle.text_write.specs.Begun.{row_begun}
 
 -- ---- bytes
 
@@ -81,51 +82,50 @@ lays-nothing o a = record { bytes = refl; behind = sym (add-zero a); few = omega
 -- ---- pieces begun
 
 -- not at all
-pub begun-none : (o : List ℕ) (a : ℕ) (w : List ℕ) → Begun o a w o
+pub begun-none : (o : List ℕ) (a : ℕ) (w : List ℕ) → Begun o a w [] o
 unfolding laid
-begun-none o a w = record { front = []; rest = w; whole = refl; bytes = refl }
+begun-none o a w = record { rest = w; whole = refl; bytes = refl }
 
--- the same piece, its text told in other words
-pub begun-told : {o o' : List ℕ} {a : ℕ} {w v : List ℕ} → Begun o a w o' → w ≡ v → Begun o a v o'
-begun-told x e = record { front = x.front; rest = x.rest; whole = sym e ∙ x.whole; bytes = x.bytes }
+-- the same piece, its text and its beginning told in other words
+pub begun-told : {o o' : List ℕ} {a : ℕ} {w v c d : List ℕ} → Begun o a w c o' → w ≡ v → c ≡ d → Begun o a v d o'
+begun-told x e f = record { rest = x.rest; whole = sym e ∙ x.whole ∙ rw f; bytes = x.bytes ∙ rw f }
 
 -- with one behind it
-pub begun_more : {o o' : List ℕ} {a : ℕ} {w : List ℕ} → Begun o a w o' → (v : List ℕ) → Begun o a (w ++ v) o'
-begun_more x v = record { front = x.front; rest = x.rest ++ v; whole = rw x.whole (append_assoc x.front x.rest v); bytes = x.bytes }
+pub begun_more : {o o' : List ℕ} {a : ℕ} {w c : List ℕ} → Begun o a w c o' → (v : List ℕ) → Begun o a (w ++ v) c o'
+begun_more {c = c} x v = record { rest = x.rest ++ v; whole = rw x.whole (append_assoc c x.rest v); bytes = x.bytes }
 
 -- behind one that is laid down
-pub then-begun : {o o' o'' : List ℕ} {a a' : ℕ} {w v : List ℕ} {m : ℕ} → Lays m o a w o' a' → Begun o' a' v o'' → Begun o a (w ++ v) o''
-then-begun {o} {o'} {o''} {a} {a'} {w} {v} x y =
+pub then-begun : {o o' o'' : List ℕ} {a a' : ℕ} {w v c : List ℕ} {m : ℕ} → Lays m o a w o' a' → Begun o' a' v c o'' → Begun o a (w ++ v) (w ++ c) o''
+then-begun {o} {o'} {o''} {a} {a'} {w} {v} {c} x y =
     record {
-      front = w ++ y.front;
       rest = y.rest;
-      whole = rw y.whole (sym (append_assoc w y.front y.rest));
-      bytes = y.bytes ∙ rw (x.bytes, x.behind) (laid-twice o a w y.front);
+      whole = rw y.whole (sym (append_assoc w c y.rest));
+      bytes = y.bytes ∙ rw (x.bytes, x.behind) (laid-twice o a w c);
     }
 
 -- ---- pieces with names
 
 -- laid down, or refused
-pub puts-ok : {m : ℕ} {o o' : List ℕ} {a n : ℕ} {w : List ℕ} {l : Bool} → l ≡ false → Lays m o a w o' n → Puts m o a w l o' (Ok n)
+pub puts-ok : {m : ℕ} {o o' : List ℕ} {a n : ℕ} {w c : List ℕ} {l : Bool} → l ≡ false → Lays m o a w o' n → Puts m o a w l c o' (Ok n)
 puts-ok e x = record { was = (e, x) }
 
-pub puts-err : {m : ℕ} {o o' : List ℕ} {a : ℕ} {w : List ℕ} {l : Bool} {e : TextRefusal} → l ≡ true → e ≡ NotListed → Begun o a w o' → Puts m o a w l o' (Err e)
+pub puts-err : {m : ℕ} {o o' : List ℕ} {a : ℕ} {w c : List ℕ} {l : Bool} {e : TextRefusal} → l ≡ true → e ≡ NotListed → Begun o a w c o' → Puts m o a w l c o' (Err e)
 puts-err f g b = record { was = (f, g, b) }
 
 -- a refusal handed on
-pub refused : {m : ℕ} {o o' : List ℕ} {a : ℕ} {w : List ℕ} {l : Bool} {e : TextRefusal} (r : Result ℕ TextRefusal)
-    → IsErrAnd r (λ t. t ≡ e) → l ≡ true → e ≡ NotListed → Begun o a w o' → Puts m o a w l o' r
+pub refused : {m : ℕ} {o o' : List ℕ} {a : ℕ} {w c : List ℕ} {l : Bool} {e : TextRefusal} (r : Result ℕ TextRefusal)
+    → IsErrAnd r (λ t. t ≡ e) → l ≡ true → e ≡ NotListed → Begun o a w c o' → Puts m o a w l c o' r
 refused r h f g b = let p = err_from_is_err_and r h in rw p.1 (puts-err f (p.2 ∙ g) b)
 
 -- the same told in other words, and with a wider bound
-pub retold : (r : Result ℕ TextRefusal) {o o' : List ℕ} {a : ℕ} {w v : List ℕ} {l k : Bool} {m n : ℕ}
-    → Puts m o a w l o' r → w ≡ v → l ≡ k → m ≤ n → Puts n o a v k o' r
-retold (Ok b) x e f h = puts-ok (sym f ∙ x.was.0) (told x.was.1 e h)
-retold (Err t) x e f h = puts-err (sym f ∙ x.was.0) x.was.1 (begun-told x.was.2 e)
+pub retold : (r : Result ℕ TextRefusal) {o o' : List ℕ} {a : ℕ} {w v c d : List ℕ} {l k : Bool} {m n : ℕ}
+    → Puts m o a w l c o' r → w ≡ v → l ≡ k → c ≡ d → m ≤ n → Puts n o a v k d o' r
+retold (Ok b) x e f g h = puts-ok (sym f ∙ x.was.0) (told x.was.1 e h)
+retold (Err t) x e f g h = puts-err (sym f ∙ x.was.0) x.was.1 (begun-told x.was.2 e g)
 
 -- such a piece behind another
-pub then-puts : (r : Result ℕ TextRefusal) {o o' o'' : List ℕ} {a a' : ℕ} {w v : List ℕ} {l : Bool} {m n : ℕ}
-    → Lays m o a w o' a' → Puts n o' a' v l o'' r → Puts (m + n) o a (w ++ v) l o'' r
+pub then-puts : (r : Result ℕ TextRefusal) {o o' o'' : List ℕ} {a a' : ℕ} {w v c : List ℕ} {l : Bool} {m n : ℕ}
+    → Lays m o a w o' a' → Puts n o' a' v l c o'' r → Puts (m + n) o a (w ++ v) l (w ++ c) o'' r
 then-puts (Ok b) x y = puts-ok y.was.0 (and_then x y.was.1)
 then-puts (Err t) x y = puts-err y.was.0 y.was.1 (then-begun x y.was.2)
 
@@ -136,6 +136,14 @@ flatten-snoc : (ls : List (List ℕ)) (l : List ℕ) → flatten (ls ++ (l ∷ [
 unfolding flatten
 flatten-snoc [] l = append-nil l
 flatten-snoc (x ∷ ls) l = rw (flatten-snoc ls l) (sym (append_assoc x (flatten ls) l))
+
+-- a row with a piece that wants a name that is not listed
+pub row-lost : (g : ℕ → Bool) (n i : ℕ) → i < n → g i ≡ true → any_below n g ≡ true
+row-lost g n i h e = go (any_below n g) refl
+  where
+    go : (b : Bool) → any_below n g ≡ b → b ≡ true
+    go true t = refl
+    go false t = sym (any_below-at n i g t h) ∙ e
 
 module _ (m : ℕ) (f : ℕ → List ℕ) (g : ℕ → Bool) (o : List ℕ) (a : ℕ) where
   -- the first i pieces of a row, none of which wants a name that is not listed
@@ -160,23 +168,25 @@ module _ (m : ℕ) (f : ℕ → List ℕ) (g : ℕ → Bool) (o : List ℕ) (a :
   row_done i n most x e h = let y = rw e at x in (y.0, told y.1 refl h)
 
   -- the first i pieces and the beginning of the next are the beginning of the row
-  row_longer : {o' : List ℕ} (i k : ℕ) → Begun o a (flatten (tab f 0 i)) o' → Begun o a (flatten (tab f 0 (i + k))) o'
-  row_longer i zero b = let e : i ≡ i + 0 = omega arith in begun-told b (ap (λ n. flatten (tab f 0 n)) e)
+  row_longer : {o' c : List ℕ} (i k : ℕ) → Begun o a (flatten (tab f 0 i)) c o' → Begun o a (flatten (tab f 0 (i + k))) c o'
+  row_longer i zero b = let e : i ≡ i + 0 = omega arith in begun-told b (ap (λ n. flatten (tab f 0 n)) e) refl
   row_longer i (suc k) b =
       let e : i + k + 1 ≡ i + suc k = omega arith in
       begun-told (begun_more (row_longer i k b) (f (i + k)))
-      (sym (rw (tab-next f (i + k)) (flatten-snoc (tab f 0 (i + k)) (f (i + k)))) ∙ ap (λ n. flatten (tab f 0 n)) e)
+      (sym (rw (tab-next f (i + k)) (flatten-snoc (tab f 0 (i + k)) (f (i + k)))) ∙ ap (λ n. flatten (tab f 0 n)) e) refl
 
-  pub row-begun : {o' o'' : List ℕ} {a' : ℕ} (i n : ℕ) → i < n → Row i o' a' → Begun o' a' (f i) o'' → Begun o a (flatten (tab f 0 n)) o''
-  row-begun i n h x y =
+  -- and are what is laid down of the row
+  row-front : (h : ℕ → List ℕ) (i k : ℕ) → any_below i g ≡ false → g i ≡ true → flatten (tab f 0 i) ++ h i ≡ row_begun f g h (i + suc k)
+  unfolding row_begun
+  row-front h i zero u t = rw (add-suc i 0, add-zero i, u)
+  row-front h i (suc k) u t =
+      let b : i < i + suc k = omega arith in
+      rw (add-suc i (suc k), row-lost g (i + suc k) i b t) (row-front h i k u t)
+
+  pub row-begun : {o' o'' : List ℕ} {a' : ℕ} (h : ℕ → List ℕ) (i n : ℕ) → i < n → Row i o' a' → g i ≡ true → Begun o' a' (f i) (h i) o''
+      → Begun o a (flatten (tab f 0 n)) (row_begun f g h n) o''
+  row-begun h i n l x t y =
       let e : i + 1 + (n - (i + 1)) ≡ n = omega arith in
-      let b = begun-told (then-begun x.1 y) (sym (rw (tab-next f i) (flatten-snoc (tab f 0 i) (f i)))) in
-      begun-told (row_longer (i + 1) (n - (i + 1)) b) (ap (λ k. flatten (tab f 0 k)) e)
-
--- a row with a piece that wants one
-pub row-lost : (g : ℕ → Bool) (n i : ℕ) → i < n → g i ≡ true → any_below n g ≡ true
-row-lost g n i h e = go (any_below n g) refl
-  where
-    go : (b : Bool) → any_below n g ≡ b → b ≡ true
-    go true t = refl
-    go false t = sym (any_below-at n i g t h) ∙ e
+      let d : i + suc (n - (i + 1)) ≡ n = omega arith in
+      let b = begun-told (then-begun x.1 y) (sym (rw (tab-next f i) (flatten-snoc (tab f 0 i) (f i)))) refl in
+      begun-told (row_longer (i + 1) (n - (i + 1)) b) (ap (λ k. flatten (tab f 0 k)) e) (row-front h i (n - (i + 1)) x.0 t ∙ ap (row_begun f g h) d)

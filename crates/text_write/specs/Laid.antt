@@ -15,18 +15,17 @@ pub record Lays (most : ℕ) (before : List ℕ) (at : ℕ) (text : List ℕ) (a
   pub behind : next ≡ at + length text
   pub few : length text ≤ most
 
--- the beginning of a text was laid down at a byte, and no more of it
-pub record Begun (before : List ℕ) (at : ℕ) (text : List ℕ) (after : List ℕ) : Type 0 where
-  pub front : List ℕ
+-- this beginning of a text was laid down at a byte, and no more of it
+pub record Begun (before : List ℕ) (at : ℕ) (text : List ℕ) (front : List ℕ) (after : List ℕ) : Type 0 where
   pub rest : List ℕ
   pub whole : text ≡ front ++ rest
   pub bytes : after ≡ laid before at front
 
--- a piece with names: laid down, or begun and refused since a name of it is not listed, as `lost` says
-abbrev pub PutAs : ℕ → List ℕ → ℕ → List ℕ → Bool → List ℕ → Result ℕ TextRefusal → Type 0
-PutAs most before at text lost after (Ok next) = (lost ≡ false) × Lays most before at text after next
-PutAs most before at text lost after (Err e) = (lost ≡ true) × (e ≡ NotListed) × Begun before at text after
+-- a piece with names: laid down, or begun as far as `front` and refused since a name of it is not listed, as `lost` says
+abbrev pub PutAs : ℕ → List ℕ → ℕ → List ℕ → Bool → List ℕ → List ℕ → Result ℕ TextRefusal → Type 0
+PutAs most before at text lost front after (Ok next) = (lost ≡ false) × Lays most before at text after next
+PutAs most before at text lost front after (Err e) = (lost ≡ true) × (e ≡ NotListed) × Begun before at text front after
 
 -- the same as a record, whose arguments can be told from its type
-pub record Puts (most : ℕ) (before : List ℕ) (at : ℕ) (text : List ℕ) (lost : Bool) (after : List ℕ) (answer : Result ℕ TextRefusal) : Type 0 where
-  pub was : PutAs most before at text lost after answer
+pub record Puts (most : ℕ) (before : List ℕ) (at : ℕ) (text : List ℕ) (lost : Bool) (front : List ℕ) (after : List ℕ) (answer : Result ℕ TextRefusal) : Type 0 where
+  pub was : PutAs most before at text lost front after answer

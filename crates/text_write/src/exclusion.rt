@@ -5,11 +5,12 @@ ghost use Rattle.format.specs.Rule.{privilege_at, exclusion_at};
 ghost use Rattle.fields.specs.Code.{privilege_of, exclusion_code};
 ghost use Rattle.xml.specs.Names.{role_names};
 ghost use Rattle.xml.specs.Write.{member_text, exclusion_text};
-ghost use Rattle.text_write.specs.Words.{most_word_bytes};
+ghost use Rattle.text_write.specs.Words.{role_start, most_word_bytes};
 ghost use Rattle.text_write.specs.Laid.{Lays, Puts};
 ghost use Rattle.text_write.specs.Lost.{name_lost, privilege_lost, member_lost, exclusion_lost};
 ghost use Rattle.text_write.specs.Pieces.{most_role_bytes, most_pair_bytes, most_members_bytes, most_opening_bytes, most_exclusion_bytes};
 ghost use Rattle.text_write.specs.Pieces.{role_text, pair_text, opening_text, members_text, members_lost, Countable};
+ghost use Rattle.text_write.specs.Begun.{pair_begun, member_begun, members_begun, exclusion_begun};
 
 use crate::put::{put, put_name};
 use crate::spelling::{
@@ -36,7 +37,7 @@ pub fn put_pair(
 ) -> Result<usize, TextRefusal>
     requires at_bound { at + most_pair_bytes < 4294967296 }
     requires words { (length start.now ≤ most_word_bytes) × (length between.now ≤ most_word_bytes) }
-    ensures { Puts most_pair_bytes output.old at (pair_text names.now.list.now start.now between.now (privilege_of p)) (privilege_lost names.now.list.now (privilege_of p)) output.new result }
+    ensures { Puts most_pair_bytes output.old at (pair_text names.now.list.now start.now between.now (privilege_of p)) (privilege_lost names.now.list.now (privilege_of p)) (pair_begun names.now.list.now start.now between.now (privilege_of p)) output.new result }
 {
     let first = put(output, at, start);
     let second = put_name(
@@ -59,7 +60,7 @@ fn put_role(
     role: u16,
 ) -> Result<usize, TextRefusal>
     requires { at + most_role_bytes < 4294967296 }
-    ensures { Puts most_role_bytes output.old at (role_text names.now.list.now role) (name_lost names.now.list.now role_names role) output.new result }
+    ensures { Puts most_role_bytes output.old at (role_text names.now.list.now role) (name_lost names.now.list.now role_names role) role_start output.new result }
 {
     let first = put(output, at, ROLE);
     let second = put_name(output, first, names, NameKind::Role.code(), role)?;
@@ -75,7 +76,7 @@ fn put_member(
     p: Privilege,
 ) -> Result<usize, TextRefusal>
     requires { at + most_pair_bytes < 4294967296 }
-    ensures { Puts most_pair_bytes output.old at (member_text names.now.list.now (exclusion_code kind) (privilege_of p)) (member_lost names.now.list.now (exclusion_code kind) (privilege_of p)) output.new result }
+    ensures { Puts most_pair_bytes output.old at (member_text names.now.list.now (exclusion_code kind) (privilege_of p)) (member_lost names.now.list.now (exclusion_code kind) (privilege_of p)) (member_begun names.now.list.now (exclusion_code kind) (privilege_of p)) output.new result }
 {
     match kind {
         ExclusionKind::Roles => put_role(output, at, names, p.operation.0),
@@ -95,7 +96,7 @@ fn put_members(
 ) -> Result<usize, TextRefusal>
     requires start_bound { start + most_members_bytes < 4294967296 }
     requires n_le_most_members { (n ≤ most_members) × (members + member_bytes * most_members ≤ length b.now) }
-    ensures { Puts most_members_bytes output.old start (members_text names.now.list.now (exclusion_code kind) (λ i. privilege_at b.now (members + member_bytes * i)) n) (members_lost names.now.list.now (exclusion_code kind) (λ i. privilege_at b.now (members + member_bytes * i)) n) output.new result }
+    ensures { Puts most_members_bytes output.old start (members_text names.now.list.now (exclusion_code kind) (λ i. privilege_at b.now (members + member_bytes * i)) n) (members_lost names.now.list.now (exclusion_code kind) (λ i. privilege_at b.now (members + member_bytes * i)) n) (members_begun names.now.list.now (exclusion_code kind) (λ i. privilege_at b.now (members + member_bytes * i)) n) output.new result }
 {
     let mut at = start;
     for i in 0..n {
@@ -147,7 +148,7 @@ pub fn put_exclusion(
 ) -> Result<usize, TextRefusal>
     requires at_bound { at + most_exclusion_bytes < 4294967296 }
     requires e_lt { (e < most_exclusions) × Countable (exclusion_at b.now e) }
-    ensures { Puts most_exclusion_bytes output.old at (exclusion_text names.now.list.now (exclusion_at b.now e)) (exclusion_lost names.now.list.now (exclusion_at b.now e)) output.new result }
+    ensures { Puts most_exclusion_bytes output.old at (exclusion_text names.now.list.now (exclusion_at b.now e)) (exclusion_lost names.now.list.now (exclusion_at b.now e)) (exclusion_begun names.now.list.now (exclusion_at b.now e)) output.new result }
 {
     let begin = EXCLUSION_BYTES * e;
     let kind = kind_of(b[EXCLUSION_KIND_AT + begin]);

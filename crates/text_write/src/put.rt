@@ -1,5 +1,5 @@
 // What every piece of the text is laid down by: bytes and names. Past the output's end nothing is written. Each answers where the next byte goes.
-ghost use Rattle.std.specs.Prelude.{◌≡◌, true, ◌+◌, ◌<◌, ◌≤◌, length, set, OnErr};
+ghost use Rattle.std.specs.Prelude.{◌≡◌, [], true, ◌+◌, ◌<◌, ◌≤◌, length, set, OnErr};
 ghost use Rattle.xml.specs.Names.{most_name_bytes};
 ghost use Rattle.xml.specs.Write.{name_text};
 ghost use Rattle.text_write.specs.Laid.{Lays, Puts};
@@ -37,7 +37,7 @@ pub fn put_name(
     number: u16,
 ) -> Result<usize, TextRefusal>
     requires { at + most_name_bytes < 4294967296 }
-    ensures puts { Puts most_name_bytes output.old at (name_text names.now.list.now kind number) (name_lost names.now.list.now kind number) output.new result }
+    ensures puts { Puts most_name_bytes output.old at (name_text names.now.list.now kind number) (name_lost names.now.list.now kind number) [] output.new result }
     ensures kept { OnErr result (output.new ≡ output.old) }
 {
     let Some(name) = names.name_of(kind, number) else {

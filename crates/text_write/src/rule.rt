@@ -1,16 +1,17 @@
 // A rule's text.
-ghost use Rattle.std.specs.Prelude.{◌≡◌, true, ◌++◌, ◌+◌, ◌<◌, ◌≤◌, length};
+ghost use Rattle.std.specs.Prelude.{◌≡◌, [], true, ◌++◌, ◌+◌, ◌<◌, ◌≤◌, length};
 ghost use Rattle.words.specs.Bytes.{byte_at};
 ghost use Rattle.format.specs.Layout.{block_bytes, most_levels, depth_at};
-ghost use Rattle.format.specs.Rule.{level_at, rule_at};
+ghost use Rattle.format.specs.Rule.{level_at, privilege_at, rule_at};
 ghost use Rattle.policy_check.specs.Parts.{step_at};
 ghost use Rattle.xml.specs.Names.{most_name_bytes};
 ghost use Rattle.xml.specs.Write.{value_text, level_text, context_text, rule_text};
-ghost use Rattle.text_write.specs.Words.{most_word_bytes};
+ghost use Rattle.text_write.specs.Words.{target_uri, most_word_bytes};
 ghost use Rattle.text_write.specs.Laid.{Lays, Puts};
 ghost use Rattle.text_write.specs.Lost.{value_lost, level_lost, context_lost, step_lost, exclusions_lost, rule_lost, has_range as has_range_of};
 ghost use Rattle.text_write.specs.Pieces.{most_pair_bytes, most_level_bytes, most_context_bytes, most_steps_bytes, most_exclusions_bytes, most_rule_bytes};
 ghost use Rattle.text_write.specs.Pieces.{set_step_text, steps_text, steps_lost, comma_text, exclusions_text, Writable};
+ghost use Rattle.text_write.specs.Begun.{pair_begun, steps_begun, level_begun, context_begun, exclusions_begun, rule_begun};
 
 use crate::exclusion::{put_exclusion, put_pair};
 use crate::put::{put, put_name};
@@ -40,7 +41,7 @@ fn put_step(
 ) -> Result<usize, TextRefusal>
     requires at_bound { at + most_pair_bytes < 4294967296 }
     requires start { (length start.now ≤ most_word_bytes) × (flag < block_bytes) × (step + 3 < block_bytes) }
-    ensures { Puts most_pair_bytes output.old at (set_step_text names.now.list.now start.now (step_at b.now flag step)) (step_lost names.now.list.now (step_at b.now flag step)) output.new result }
+    ensures { Puts most_pair_bytes output.old at (set_step_text names.now.list.now start.now (step_at b.now flag step)) (step_lost names.now.list.now (step_at b.now flag step)) (pair_begun names.now.list.now start.now target_uri (privilege_at b.now step)) output.new result }
 {
     if b[flag] != 1 {
         return Ok(at);
@@ -63,7 +64,7 @@ fn put_steps(
     b: &[u8; BLOCK_BYTES],
 ) -> Result<usize, TextRefusal>
     requires { at + most_steps_bytes < 4294967296 }
-    ensures { Puts most_steps_bytes output.old at (steps_text names.now.list.now (rule_at b.now)) (steps_lost names.now.list.now (rule_at b.now)) output.new result }
+    ensures { Puts most_steps_bytes output.old at (steps_text names.now.list.now (rule_at b.now)) (steps_lost names.now.list.now (rule_at b.now)) (steps_begun names.now.list.now (rule_at b.now)) output.new result }
 {
     let first = put_step(
         output,
@@ -96,7 +97,7 @@ fn put_value(
     i: usize,
 ) -> Result<usize, TextRefusal>
     requires { (at + most_name_bytes < 4294967296) × (i < most_levels) }
-    ensures { Puts most_name_bytes output.old at (value_text names.now.list.now (level_at b.now i)) (value_lost names.now.list.now (level_at b.now i)) output.new result }
+    ensures { Puts most_name_bytes output.old at (value_text names.now.list.now (level_at b.now i)) (value_lost names.now.list.now (level_at b.now i)) [] output.new result }
 {
     let mark = b[LEVEL_MARK_AT + LEVEL_BYTES * i];
     if mark == FIXED {
@@ -129,7 +130,7 @@ fn put_level(
     i: usize,
 ) -> Result<usize, TextRefusal>
     requires { (at + most_level_bytes < 4294967296) × (i < most_levels) }
-    ensures { Puts most_level_bytes output.old at (comma_text i ++ level_text names.now.list.now (level_at b.now i)) (level_lost names.now.list.now (level_at b.now i)) output.new result }
+    ensures { Puts most_level_bytes output.old at (comma_text i ++ level_text names.now.list.now (level_at b.now i)) (level_lost names.now.list.now (level_at b.now i)) (level_begun names.now.list.now i (level_at b.now i)) output.new result }
 {
     let kind = u16_at(b, LEVEL_TYPE_AT + LEVEL_BYTES * i) as u16;
     let first = put_comma(output, at, i);
@@ -147,7 +148,7 @@ fn put_context(
 ) -> Result<usize, TextRefusal>
     requires start_bound { start + most_context_bytes < 4294967296 }
     requires depth { byte_at b.now depth_at ≤ most_levels }
-    ensures { Puts most_context_bytes output.old start (context_text names.now.list.now (rule_at b.now)) (context_lost names.now.list.now (rule_at b.now)) output.new result }
+    ensures { Puts most_context_bytes output.old start (context_text names.now.list.now (rule_at b.now)) (context_lost names.now.list.now (rule_at b.now)) (context_begun names.now.list.now (rule_at b.now)) output.new result }
 {
     let depth = usize::from(b[DEPTH_AT]);
     let mut at = start;
@@ -176,7 +177,7 @@ fn put_exclusions(
 ) -> Result<usize, TextRefusal>
     requires start_bound { start + most_exclusions_bytes < 4294967296 }
     requires writable { Writable b.now }
-    ensures { Puts most_exclusions_bytes output.old start (exclusions_text names.now.list.now (rule_at b.now)) (exclusions_lost names.now.list.now (rule_at b.now)) output.new result }
+    ensures { Puts most_exclusions_bytes output.old start (exclusions_text names.now.list.now (rule_at b.now)) (exclusions_lost names.now.list.now (rule_at b.now)) (exclusions_begun names.now.list.now (rule_at b.now)) output.new result }
 {
     let exclusions = usize::from(b[EXCLUSIONS_AT]);
     let mut at = start;
@@ -195,7 +196,7 @@ pub fn put_rule(
 ) -> Result<usize, TextRefusal>
     requires at_bound { at + most_rule_bytes < 4294967296 }
     requires writable { Writable b.now }
-    ensures { Puts most_rule_bytes output.old at (rule_text names.now.list.now (rule_at b.now)) (rule_lost names.now.list.now (rule_at b.now)) output.new result }
+    ensures { Puts most_rule_bytes output.old at (rule_text names.now.list.now (rule_at b.now)) (rule_lost names.now.list.now (rule_at b.now)) (rule_begun names.now.list.now (rule_at b.now)) output.new result }
 {
     let first = put(output, at, RULE);
     let second = put_context(output, first, names, b)?;
