@@ -64,16 +64,17 @@ fn repeats(members: &[Counted], k: usize) -> bool
         .any(|other| other.privilege == privilege)
 }
 
-// How many of the members are member k.
+// How many of the members are member k. A sum and no filter: without a branch the compiler compares many members at once.
 fn times_listed(members: &[Counted], k: usize) -> u32
     requires { (length members.now ≤ most_members) × (k < length members.now) }
     ensures { (result ≡ listed members.now k) × (result ≤ most_members) }
 {
     let privilege = members[k].privilege;
-    members
-        .iter()
-        .filter(|other| other.privilege == privilege)
-        .count() as u32
+    let mut count = 0u32;
+    for other in members {
+        count += u32::from(other.privilege == privilege);
+    }
+    count
 }
 
 // What member k counts: nothing if it repeats an earlier one.
