@@ -55,7 +55,7 @@ fn named_from(
 }
 
 // Moves the records that the context does not name to the front, in their order and with their marks: those between two that it names at once. Nothing
-// is moved before one has gone. (A record by itself, by the trait `Fate`, took 1.2 times as long.)
+// is moved before one has gone.
 pub fn close_records(context: &[u8; CONTEXT_BYTES], table: &mut [u8], n: usize) -> Settled
     requires { HasRoom table.old n }
     ensures { (records_here table.new result.held ≡ closed context.now (records_here table.old n)) × (Placed table.old table.new result.held result.changed) }
