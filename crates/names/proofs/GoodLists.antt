@@ -1,6 +1,6 @@
 -- The check of a list in the order in which the code goes through it.
 -- Assumes nothing.
-use Prim.Native.Nat.{ℕ, zero, suc, ◌+◌, ◌*◌, ◌≤◌, ◌<◌}
+use Prim.Native.Nat.{ℕ, zero, suc, ◌+◌, ◌-◌, ◌*◌, ◌≤◌, ◌<◌}
 use native.Mathlib.Omega.{arith}
 use mathlib.Core.Path.{◌≡◌, refl, sym, ap, ◌∙◌}
 use mathlib.Core.Bool.{Bool, true, false, ◌&&◌, and-true, and-false}
@@ -9,7 +9,7 @@ use lib.ListN.{length}
 use lib.Dec.{eqb, leb}
 use borrow.Author.Tests.{eq-eqb, eqb-true, le-leb, lt-leb}
 use Rattle.words.specs.Lists.{all_below}
-use Rattle.word_laws.proofs.Tests.{all_below-at, all_below-fails, all_below-same}
+use Rattle.word_laws.proofs.Tests.{both_first, all_below-at, all_below-fails}
 use Rattle.xml.specs.Names.{entry_bytes, most_names, most_name_bytes, names, length_of, good_name, good_names}
 use Rattle.names.specs.Parts.{new_name, good_part, good_at}
 use Rattle.names.proofs.GoodEntries.{good-entry}
@@ -88,37 +88,23 @@ module _ (l : List ℕ) where
   unfolding good_names
   each-good e h = rw (eq-eqb (64 * names l) (length l) e, le-leb (names l) 1024 h) (all_below-both (names l) (good_name l) (new_name l))
 
-  -- the first entries are those from none on
-  good_first : (m : ℕ) → good_part l 0 m ≡ all_below m (good_name l) && all_below m (new_name l)
-  good_first m =
-      rw (
-        all_below-same m (λ k. good_name l (0 + k)) (good_name l) (λ i h. ap (good_name l) (omega arith)),
-        all_below-same m (λ k. new_name l (0 + k)) (new_name l) (λ i h. ap (new_name l) (omega arith)),
-      )
+  -- the first entries, if they are good: each is by itself
+  pub part-before : (m : ℕ) → all_below m (good_at l) ≡ true → all_below m (good_name l) ≡ true
+  part-before m a = both_first (all_below m (good_name l)) (all_below m (new_name l)) (sym (all_below-both m (good_name l) (new_name l)) ∙ a)
 
-  -- so the entries are tested in two parts, one after the other
-  in-parts : (m n : ℕ) → m + n ≡ names l → good_part l 0 m && good_part l m n ≡ all_below (names l) (good_name l) && all_below (names l) (new_name l)
-  in-parts m n e =
-      rw (good_first m, ← e, all_below-parts m n (good_name l), all_below-parts m n (new_name l))
-      (go (all_below m (good_name l)) (all_below m (new_name l)) (all_below n (λ k. good_name l (m + k))) (all_below n (λ k. new_name l (m + k))))
-    where
-      go : (a x b y : Bool) → (a && x) && (b && y) ≡ (a && b) && (x && y)
-      go true true b y = refl
-      go true false true y = refl
-      go true false false y = refl
-      go false x b y = refl
+  -- a good part behind them
+  pub part-more : (m n : ℕ) → all_below m (good_at l) ≡ true → good_part l m n ≡ true → all_below (m + n) (good_at l) ≡ true
+  part-more m n a g =
+      all_below-parts m n (good_at l) ∙ rw (a, all_below-both n (λ k. good_name l (m + k)) (λ k. new_name l (m + k))) g
 
-  module _ (m n : ℕ) (parts : m + n ≡ names l) (e : entry_bytes * names l ≡ length l) (h : names l ≤ most_names) where
-    in-two : good_part l 0 m && good_part l m n ≡ good_names l
-    in-two = in-parts m n parts ∙ sym (each-good e h)
-
-    -- where the first part is good, the second decides
-    pub first-good : good_part l 0 m ≡ true → good_part l m n ≡ good_names l
-    first-good g = sym (ap (λ b. b && good_part l m n) g) ∙ in-two
-
-    -- where it is bad, the list is
-    pub first-bad : good_part l 0 m ≡ false → false ≡ good_names l
-    first-bad g = sym (ap (λ b. b && good_part l m n) g) ∙ in-two
+  -- a bad one
+  pub part-bad : (m n : ℕ) → m + n ≤ names l → good_part l m n ≡ false → good_names l ≡ false
+  unfolding good_names
+  part-bad m n h g =
+      let e : m + n + (names l - (m + n)) ≡ names l = omega arith in
+      let b = all_below-parts m n (good_at l) ∙ fails-second (all_below m (good_at l)) (all_below n (λ k. good_at l (m + k))) (all_below-both n (λ k. good_name l (m + k)) (λ k. new_name l (m + k)) ∙ g) in
+      let c = all_below-parts (m + n) (names l - (m + n)) (good_at l) ∙ fails-first (all_below (m + n) (good_at l)) (all_below (names l - (m + n)) (λ k. good_at l (m + n + k))) b in
+      fails-second (eqb (64 * names l) (length l) && leb (names l) 1024) (all_below (names l) (good_at l)) (ap (λ k. all_below k (good_at l)) (sym e) ∙ c)
 
   -- names of entries that are good by themselves have at most 60 bytes
   pub lengths-below : (n : ℕ) → all_below n (good_name l) ≡ true → (i : ℕ) → i < n → (j : ℕ) → j ≤ i → length_of l j ≤ most_name_bytes

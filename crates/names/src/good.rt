@@ -81,9 +81,6 @@ fn new_name(list: &[u8], i: usize) -> bool
     (0..i).all(|j| apart(list, j, i))
 }
 
-// The first entries are tested whole before any other, so that an early one that repeats another is refused at once, as an early bad one is. That costs no more than to look at each entry by itself: this is the square root of MOST_NAMES.
-const FEW: usize = 32;
-
 // The n entries from one on, if all before it are good by themselves. They are compared only after each of them by itself was good.
 fn good_part(list: &[u8], from: usize, n: usize) -> bool
     requires { (from + n ≤ names list.now) × (all_below from (good_name list.now) ≡ true) }
@@ -92,7 +89,8 @@ fn good_part(list: &[u8], from: usize, n: usize) -> bool
     (0..n).all(|i| good_name(list, from + i)) && (0..n).all(|i| new_name(list, from + i))
 }
 
-// The whole list, of any length.
+// The whole list, of any length. The first entry is tested, then one more, two, four and so on: each time as many as have passed. So an early entry that is bad
+// or repeats another is refused about as soon as if they were tested one by one, and most entries are still tested many at a time.
 pub fn good_names(list: &[u8]) -> bool
     ensures { result ≡ good_names list.now }
 {
@@ -100,8 +98,15 @@ pub fn good_names(list: &[u8]) -> bool
     if ENTRY_BYTES * n != list.len() || MOST_NAMES < n {
         return false;
     }
-    let few = n.min(FEW);
-    good_part(list, 0, few) && good_part(list, few, n - few)
+    let mut from = 0;
+    while from < n {
+        let few = from.max(1).min(n - from);
+        if !good_part(list, from, few) {
+            return false;
+        }
+        from += few;
+    }
+    true
 }
 
 // A list of names that has passed its check. That its elements are bytes is told of a list that a function is lent, but not of one within a type.

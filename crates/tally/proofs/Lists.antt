@@ -94,6 +94,14 @@ module _ {A : Type 0} (t : A → Bool) (d : A) where
       ∙ ap (λ (n : ℕ). cond (t x) 1 0 + n) (count_by-below xs)
       ∙ sym (sum_below-first (length xs) (λ j. cond (t (get_or (x ∷ xs) j d)) 1 0))
 
+  -- one that passes is counted
+  pub count_by-some : (l : List A) (k : ℕ) → k < length l → t (get_or l k d) ≡ true → 1 ≤ count_by t l
+  count_by-some [] k h e = absurd (omega arith)
+  count_by-some (x ∷ xs) zero h e = let s = sum_by-cons (λ y. cond (t y) 1 0) x xs in rw (s, e) (omega arith)
+  count_by-some (x ∷ xs) (suc k) h e =
+      let s = sum_by-cons (λ y. cond (t y) 1 0) x xs in
+      omega (arith, s, count_by-some xs k (omega arith) e)
+
   pub list_any-below : (l : List A) (k : ℕ) → k ≤ length l → list_any t (take k l) ≡ any_below k (λ j. t (get_or l j d))
   unfolding any_below
   list_any-below l zero h = refl

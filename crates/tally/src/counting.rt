@@ -77,7 +77,7 @@ fn times_listed(members: &[Counted], k: usize) -> u32
     count
 }
 
-// What member k counts: nothing if it repeats an earlier one.
+// What member k counts: nothing if it repeats an earlier one. It is listed at least once, so how often is asked only of what was done more than once.
 fn count_member(members: &[Counted], k: usize) -> u32
     requires { (length members.now ≤ most_members) × (k < length members.now) }
     ensures { (result ≡ member_counts members.now k) × (result ≤ most_members) }
@@ -85,8 +85,11 @@ fn count_member(members: &[Counted], k: usize) -> u32
     if repeats(members, k) {
         return 0;
     }
-    let most = times_listed(members, k);
     let done = members[k].times;
+    if done <= 1 {
+        return done;
+    }
+    let most = times_listed(members, k);
     if most < done {
         return most;
     }

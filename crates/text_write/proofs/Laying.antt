@@ -1,11 +1,11 @@
 -- Text laid down piece by piece is the whole text laid down.
 -- Assumes nothing.
-use Prim.Native.Nat.{ℕ, zero, suc, ◌+◌, ◌-◌, ◌*◌, ◌≤◌, ◌<◌}
+use Prim.Native.Nat.{ℕ, suc, ◌+◌, ◌*◌, ◌≤◌, ◌<◌}
 use native.Mathlib.Nat.{add-zero, add-suc, suc-add, add_assoc}
 use native.Mathlib.Numerals.{add-one}
 use native.Mathlib.Omega.{arith}
-use mathlib.Core.Path.{◌≡◌, refl, sym, ap, ◌∙◌}
-use mathlib.Core.Bool.{Bool, true, false}
+use mathlib.Core.Path.{◌≡◌, refl, sym, ◌∙◌}
+use mathlib.Core.Bool.{Bool, true, false, ◌||◌}
 use mathlib.Core.List.{List, [], ◌∷◌, ◌++◌, flatten, append-nil, append_assoc}
 use lib.ListN.{length, get_or, set, take, drop, length-append, length-take}
 use lib.Seq.{sets-eq, length-sets, take-suc}
@@ -13,14 +13,13 @@ use Rattle.words.specs.Lists.{tab, any_below}
 use Rattle.word_laws.proofs.Lists.{tab-next}
 use Rattle.word_laws.proofs.Tests.{any_below-at}
 use Rattle.word_laws.proofs.Below.{any-more}
-use Rattle.std.specs.declared.result.Result.{Result}
-use Rattle.std.specs.Result.{IsErrAnd}
-use Rattle.std.proofs.lemmas.Result.{err_from_is_err_and}
+use Rattle.std.specs.Prelude.{Result, ⊤}
+use Rattle.std.specs.Result.{result_and}
 use Rattle.std.specs.declared.result.Result.TheVariants.{Ok, Err}
 use Rattle.format.specs.declared.answer.TextRefusal.{TextRefusal}
 use Rattle.format.specs.declared.answer.TextRefusal.TheVariants.{NotListed}
-use Rattle.text_write.specs.Laid.{laid, Lays, Begun, Puts}
-use Rattle.text_write.specs.Begun.{row_begun}
+use Rattle.text_write.specs.Laid.{laid, Lays, refused_if, Puts}
+use Rattle.text_write.specs.declared.put.Placed.{Placed}
 
 -- ---- bytes
 
@@ -79,55 +78,44 @@ pub lays-nothing : (o : List ℕ) (a : ℕ) → Lays 0 o a [] o a
 unfolding laid
 lays-nothing o a = record { bytes = refl; behind = sym (add-zero a); few = omega arith }
 
--- ---- pieces begun
-
--- not at all
-pub begun-none : (o : List ℕ) (a : ℕ) (w : List ℕ) → Begun o a w [] o
-unfolding laid
-begun-none o a w = record { rest = w; whole = refl; bytes = refl }
-
--- the same piece, its text and its beginning told in other words
-pub begun-told : {o o' : List ℕ} {a : ℕ} {w v c d : List ℕ} → Begun o a w c o' → w ≡ v → c ≡ d → Begun o a v d o'
-begun-told x e f = record { rest = x.rest; whole = sym e ∙ x.whole ∙ rw f; bytes = x.bytes ∙ rw f }
-
--- with one behind it
-pub begun_more : {o o' : List ℕ} {a : ℕ} {w c : List ℕ} → Begun o a w c o' → (v : List ℕ) → Begun o a (w ++ v) c o'
-begun_more {c = c} x v = record { rest = x.rest ++ v; whole = rw x.whole (append_assoc c x.rest v); bytes = x.bytes }
-
--- behind one that is laid down
-pub then-begun : {o o' o'' : List ℕ} {a a' : ℕ} {w v c : List ℕ} {m : ℕ} → Lays m o a w o' a' → Begun o' a' v c o'' → Begun o a (w ++ v) (w ++ c) o''
-then-begun {o} {o'} {o''} {a} {a'} {w} {v} {c} x y =
-    record {
-      rest = y.rest;
-      whole = rw y.whole (sym (append_assoc w c y.rest));
-      bytes = y.bytes ∙ rw (x.bytes, x.behind) (laid-twice o a w c);
-    }
-
 -- ---- pieces with names
 
--- laid down, or refused
-pub puts-ok : {m : ℕ} {o o' : List ℕ} {a n : ℕ} {w c : List ℕ} {l : Bool} → l ≡ false → Lays m o a w o' n → Puts m o a w l c o' (Ok n)
-puts-ok e x = record { was = (e, x) }
+-- two answers in a row are one, which refuses if either does
+pub refused-both : (l k : Bool) {q r s : Result ⊤ TextRefusal} → q ≡ refused_if l → r ≡ refused_if k → s ≡ result_and q r → s ≡ refused_if (l || k)
+refused-both l k d e f = rw (f, d, e) (go l)
+  where
+    go : (b : Bool) → result_and (refused_if b) (refused_if k) ≡ refused_if (b || k)
+    go true = refl
+    go false = refl
 
-pub puts-err : {m : ℕ} {o o' : List ℕ} {a : ℕ} {w c : List ℕ} {l : Bool} {e : TextRefusal} → l ≡ true → e ≡ NotListed → Begun o a w c o' → Puts m o a w l c o' (Err e)
-puts-err f g b = record { was = (f, g, b) }
+-- what is not refused has all its names, and what is refused has not
+pub all-listed : (l : Bool) → refused_if l ≡ Ok tt → l ≡ false
+all-listed false e = refl
+all-listed true e = absurd (cc)
 
--- a refusal handed on
-pub refused : {m : ℕ} {o o' : List ℕ} {a : ℕ} {w c : List ℕ} {l : Bool} {e : TextRefusal} (r : Result ℕ TextRefusal)
-    → IsErrAnd r (λ t. t ≡ e) → l ≡ true → e ≡ NotListed → Begun o a w c o' → Puts m o a w l c o' r
-refused r h f g b = let p = err_from_is_err_and r h in rw p.1 (puts-err f (p.2 ∙ g) b)
+pub one-missing : (l : Bool) {t : TextRefusal} → refused_if l ≡ Err t → (l ≡ true) × (t ≡ NotListed)
+one-missing true e = (refl, cc)
+one-missing false e = absurd (cc)
+
+-- a piece of which all names are listed, or that has none
+pub puts-ok : {m : ℕ} {o o' : List ℕ} {a n : ℕ} {w : List ℕ} {l : Bool} → l ≡ false → Lays m o a w o' n → Puts m o a w l o' (record { next = n; named = Ok tt })
+puts-ok e x = record { lays = x; named = rw e }
 
 -- the same told in other words, and with a wider bound
-pub retold : (r : Result ℕ TextRefusal) {o o' : List ℕ} {a : ℕ} {w v c d : List ℕ} {l k : Bool} {m n : ℕ}
-    → Puts m o a w l c o' r → w ≡ v → l ≡ k → c ≡ d → m ≤ n → Puts n o a v k d o' r
-retold (Ok b) x e f g h = puts-ok (sym f ∙ x.was.0) (told x.was.1 e h)
-retold (Err t) x e f g h = puts-err (sym f ∙ x.was.0) x.was.1 (begun-told x.was.2 e g)
+pub retold : (r : Placed) {o o' : List ℕ} {a : ℕ} {w v : List ℕ} {l k : Bool} {m n : ℕ}
+    → Puts m o a w l o' r → w ≡ v → l ≡ k → m ≤ n → Puts n o a v k o' r
+retold r x e f h = record { lays = told x.lays e h; named = x.named ∙ rw f }
 
--- such a piece behind another
-pub then-puts : (r : Result ℕ TextRefusal) {o o' o'' : List ℕ} {a a' : ℕ} {w v c : List ℕ} {l : Bool} {m n : ℕ}
-    → Lays m o a w o' a' → Puts n o' a' v l c o'' r → Puts (m + n) o a (w ++ v) l (w ++ c) o'' r
-then-puts (Ok b) x y = puts-ok y.was.0 (and_then x y.was.1)
-then-puts (Err t) x y = puts-err y.was.0 y.was.1 (then-begun x y.was.2)
+-- such a piece behind another without names
+pub then-puts : (r : Placed) {o o' o'' : List ℕ} {a a' : ℕ} {w v : List ℕ} {l : Bool} {m n : ℕ}
+    → Lays m o a w o' a' → Puts n o' a' v l o'' r → Puts (m + n) o a (w ++ v) l o'' r
+then-puts r x y = record { lays = and_then x y.lays; named = y.named }
+
+-- one with names behind another with names
+pub puts-both : (r s : Placed) {o o' o'' : List ℕ} {a : ℕ} {w v : List ℕ} {l k : Bool} {m n : ℕ}
+    → Puts m o a w l o' r → Puts n o' r.next v k o'' s
+    → Puts (m + n) o a (w ++ v) (l || k) o'' (record { next = s.next; named = result_and r.named s.named })
+puts-both r s x y = record { lays = and_then x.lays y.lays; named = refused-both _ _ x.named y.named refl }
 
 -- ---- a row of pieces
 
@@ -136,14 +124,6 @@ flatten-snoc : (ls : List (List ℕ)) (l : List ℕ) → flatten (ls ++ (l ∷ [
 unfolding flatten
 flatten-snoc [] l = append-nil l
 flatten-snoc (x ∷ ls) l = rw (flatten-snoc ls l) (sym (append_assoc x (flatten ls) l))
-
--- a row with a piece that wants a name that is not listed
-pub row-lost : (g : ℕ → Bool) (n i : ℕ) → i < n → g i ≡ true → any_below n g ≡ true
-row-lost g n i h e = go (any_below n g) refl
-  where
-    go : (b : Bool) → any_below n g ≡ b → b ≡ true
-    go true t = refl
-    go false t = sym (any_below-at n i g t h) ∙ e
 
 module _ (m : ℕ) (f : ℕ → List ℕ) (g : ℕ → Bool) (o : List ℕ) (a : ℕ) where
   -- the first i pieces of a row, none of which wants a name that is not listed
@@ -167,26 +147,30 @@ module _ (m : ℕ) (f : ℕ → List ℕ) (g : ℕ → Bool) (o : List ℕ) (a :
       → (any_below n g ≡ false) × Lays most o a (flatten (tab f 0 n)) o' a'
   row_done i n most x e h = let y = rw e at x in (y.0, told y.1 refl h)
 
-  -- the first i pieces and the beginning of the next are the beginning of the row
-  row_longer : {o' c : List ℕ} (i k : ℕ) → Begun o a (flatten (tab f 0 i)) c o' → Begun o a (flatten (tab f 0 (i + k))) c o'
-  row_longer i zero b = let e : i ≡ i + 0 = omega arith in begun-told b (ap (λ n. flatten (tab f 0 n)) e) refl
-  row_longer i (suc k) b =
-      let e : i + k + 1 ≡ i + suc k = omega arith in
-      begun-told (begun_more (row_longer i k b) (f (i + k)))
-      (sym (rw (tab-next f (i + k)) (flatten-snoc (tab f 0 (i + k)) (f (i + k)))) ∙ ap (λ n. flatten (tab f 0 n)) e) refl
+-- a row with a piece that wants a name that is not listed
+pub row-lost : (g : ℕ → Bool) (n i : ℕ) → i < n → g i ≡ true → any_below n g ≡ true
+row-lost g n i h e = go (any_below n g) refl
+  where
+    go : (b : Bool) → any_below n g ≡ b → b ≡ true
+    go true t = refl
+    go false t = sym (any_below-at n i g t h) ∙ e
 
-  -- and are what is laid down of the row
-  row-front : (h : ℕ → List ℕ) (i k : ℕ) → any_below i g ≡ false → g i ≡ true → flatten (tab f 0 i) ++ h i ≡ row_begun f g h (i + suc k)
-  unfolding row_begun
-  row-front h i zero u t = rw (add-suc i 0, add-zero i, u)
-  row-front h i (suc k) u t =
-      let b : i < i + suc k = omega arith in
-      rw (add-suc i (suc k), row-lost g (i + suc k) i b t) (row-front h i k u t)
+module _ (m : ℕ) (f : ℕ → List ℕ) (g : ℕ → Bool) (o : List ℕ) (a : ℕ) where
+  -- the first i pieces of a row, with nothing in place of a name that is not listed
+  abbrev pub PutRow : ℕ → List ℕ → Placed → Type 0
+  PutRow i o' r = Puts (m * i) o a (flatten (tab f 0 i)) (any_below i g) o' r
 
-  pub row-begun : {o' o'' : List ℕ} {a' : ℕ} (h : ℕ → List ℕ) (i n : ℕ) → i < n → Row i o' a' → g i ≡ true → Begun o' a' (f i) (h i) o''
-      → Begun o a (flatten (tab f 0 n)) (row_begun f g h n) o''
-  row-begun h i n l x t y =
-      let e : i + 1 + (n - (i + 1)) ≡ n = omega arith in
-      let d : i + suc (n - (i + 1)) ≡ n = omega arith in
-      let b = begun-told (then-begun x.1 y) (sym (rw (tab-next f i) (flatten-snoc (tab f 0 i) (f i)))) refl in
-      begun-told (row_longer (i + 1) (n - (i + 1)) b) (ap (λ k. flatten (tab f 0 k)) e) (row-front h i (n - (i + 1)) x.0 t ∙ ap (row_begun f g h) d)
+  -- none yet
+  pub put_row-start : PutRow 0 o (record { next = a; named = Ok tt })
+  put_row-start = let x = row-start m f g o a in puts-ok x.0 x.1
+
+  -- one piece more
+  pub put_row-more : {o' o'' : List ℕ} (r s : Placed) (i : ℕ) → PutRow i o' r → Puts m o' r.next (f i) (g i) o'' s
+      → PutRow (i + 1) o'' (record { next = s.next; named = result_and r.named s.named })
+  put_row-more r s i x y =
+      retold _ (puts-both r s x y) (sym (rw (tab-next f i) (flatten-snoc (tab f 0 i) (f i)))) (any-more g i (any_below i g) (g i) refl refl) (omega arith)
+
+  -- the loop's end
+  pub put_row-done : {o' : List ℕ} (r : Placed) (i n most : ℕ) → PutRow i o' r → i ≡ n → m * n ≤ most
+      → Puts most o a (flatten (tab f 0 n)) (any_below n g) o' r
+  put_row-done r i n most x e h = retold r (rw e at x) refl refl h

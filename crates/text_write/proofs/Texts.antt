@@ -13,13 +13,11 @@ use Rattle.format.specs.Rule.{Level, Privilege, Step, Exclusion, Rule}
 use Rattle.xml.specs.Names.{most_name_bytes, value_names, role_names, operation_names, target_names}
 use Rattle.xml.specs.Write.{name_text, attribute_text, value_text, context_text, step_text, member_text, exclusion_text, rule_text}
 use Rattle.text_write.specs.Words.{rule_start, tag_end, rule_end, first_start, last_start, target_uri, element_end, roles_start, privileges_start, roles_end, privileges_end, role_start, privilege_start, privilege_target, comma, every_sign, each_sign}
-use Rattle.std.specs.declared.result.Result.{Result}
 use Rattle.std.specs.declared.result.Result.TheVariants.{Ok}
-use Rattle.format.specs.declared.answer.TextRefusal.{TextRefusal}
 use Rattle.text_write.specs.Laid.{Lays, Puts}
-use Rattle.text_write.specs.Lost.{name_lost, privilege_lost, step_lost, member_lost, value_lost, context_lost}
-use Rattle.text_write.specs.Pieces.{most_role_bytes, most_pair_bytes, role_text, pair_text, opening_text, members_text, members_lost, set_step_text, steps_text, steps_lost, comma_text, exclusions_text}
-use Rattle.text_write.specs.Begun.{pair_begun, member_begun, members_begun, steps_begun, exclusions_begun, rule_begun}
+use Rattle.text_write.specs.declared.put.Placed.{Placed}
+use Rattle.text_write.specs.Lost.{name_lost, privilege_lost, step_lost, member_lost, value_lost}
+use Rattle.text_write.specs.Pieces.{most_role_bytes, most_pair_bytes, role_text, pair_text, opening_text, members_text, members_lost, set_step_text, steps_text, comma_text, exclusions_text}
 use Rattle.text_write.proofs.Laying.{told, puts-ok, retold, lays-nothing}
 
 -- ---- attributes
@@ -66,22 +64,22 @@ module _ (l : List ℕ) (k : ℕ) (p : Privilege) where
   unfolding member_text pair_text
   privilege-words e = privilege-spelt (name_text l operation_names p.operation) (name_text l target_names p.target) ∙ rw (ne_eqb k 1 e)
 
-module _ (l : List ℕ) (k : ℕ) (p : Privilege) {o o' : List ℕ} {q : ℕ} (r : Result ℕ TextRefusal) where
+module _ (l : List ℕ) (k : ℕ) (p : Privilege) {o o' : List ℕ} {q : ℕ} (r : Placed) where
   -- a member that is a role
-  pub role-member : k ≡ 1 → Puts most_role_bytes o q (role_text l p.operation) (name_lost l role_names p.operation) role_start o' r
-      → Puts most_pair_bytes o q (member_text l k p) (member_lost l k p) (member_begun l k p) o' r
-  unfolding member_lost member_begun
-  role-member e x = retold r x (role-words l k p e) (rw (eq-eqb k 1 e)) (rw (eq-eqb k 1 e)) (omega arith)
+  pub role-member : k ≡ 1 → Puts most_role_bytes o q (role_text l p.operation) (name_lost l role_names p.operation) o' r
+      → Puts most_pair_bytes o q (member_text l k p) (member_lost l k p) o' r
+  unfolding member_lost
+  role-member e x = retold r x (role-words l k p e) (rw (eq-eqb k 1 e)) (omega arith)
 
   -- one that is a privilege
-  pub privilege-member : (k ≡ 1 → ⊥) → Puts most_pair_bytes o q (pair_text l privilege_start privilege_target p) (privilege_lost l p) (pair_begun l privilege_start privilege_target p) o' r
-      → Puts most_pair_bytes o q (member_text l k p) (member_lost l k p) (member_begun l k p) o' r
-  unfolding member_lost member_begun
-  privilege-member e x = retold r x (privilege-words l k p e) (rw (ne_eqb k 1 e)) (rw (ne_eqb k 1 e)) (omega arith)
+  pub privilege-member : (k ≡ 1 → ⊥) → Puts most_pair_bytes o q (pair_text l privilege_start privilege_target p) (privilege_lost l p) o' r
+      → Puts most_pair_bytes o q (member_text l k p) (member_lost l k p) o' r
+  unfolding member_lost
+  privilege-member e x = retold r x (privilege-words l k p e) (rw (ne_eqb k 1 e)) (omega arith)
 
 -- ---- exclusions
 
--- of a kind, the members' texts, their loss and what is laid down of them ask only whether it is that of roles
+-- of a kind, the members' texts and their loss ask only whether it is that of roles
 pub members-alike : (l : List ℕ) (j k : ℕ) (f : ℕ → Privilege) (n : ℕ) → eqb j 1 ≡ eqb k 1 → members_text l j f n ≡ members_text l k f n
 unfolding members_text member_text
 members-alike l j k f n e = rw e
@@ -89,10 +87,6 @@ members-alike l j k f n e = rw e
 pub lost-alike : (l : List ℕ) (j k : ℕ) (f : ℕ → Privilege) (n : ℕ) → eqb j 1 ≡ eqb k 1 → members_lost l j f n ≡ members_lost l k f n
 unfolding members_lost member_lost
 lost-alike l j k f n e = rw e
-
-pub begun-alike : (l : List ℕ) (j k : ℕ) (f : ℕ → Privilege) (n : ℕ) → eqb j 1 ≡ eqb k 1 → members_begun l j f n ≡ members_begun l k f n
-unfolding members_begun member_begun member_text member_lost
-begun-alike l j k f n e = rw e
 
 -- an end tag is one piece
 closed : (p m a b e : List ℕ) → p ++ m ++ (a ++ b ++ e) ≡ p ++ m ++ a ++ b ++ e
@@ -118,17 +112,17 @@ exclusion-words l x = sym (exclusion-spelt (eqb x.kind 1) (48 + x.m) (members_te
 
 module _ (l w : List ℕ) (s : Step) where
   -- a step that is not set has no text
-  pub step-none : (o : List ℕ) (a : ℕ) → (s.flag ≡ 1 → ⊥) → Puts most_pair_bytes o a (set_step_text l w s) (step_lost l s) (pair_begun l w target_uri s.privilege) o (Ok a)
+  pub step-none : (o : List ℕ) (a : ℕ) → (s.flag ≡ 1 → ⊥) → Puts most_pair_bytes o a (set_step_text l w s) (step_lost l s) o (record { next = a; named = Ok tt })
   unfolding set_step_text step_lost
   step-none o a e = rw (ne_eqb s.flag 1 e) (puts-ok refl (told (lays-nothing o a) refl (omega arith)))
 
   -- one that is set has its privilege's
-  pub step_set : (r : Result ℕ TextRefusal) {o o' : List ℕ} {a : ℕ} {q : Privilege} → s.flag ≡ 1 → q ≡ s.privilege
-      → Puts most_pair_bytes o a (pair_text l w target_uri q) (privilege_lost l q) (pair_begun l w target_uri q) o' r
-      → Puts most_pair_bytes o a (set_step_text l w s) (step_lost l s) (pair_begun l w target_uri s.privilege) o' r
+  pub step_set : (r : Placed) {o o' : List ℕ} {a : ℕ} {q : Privilege} → s.flag ≡ 1 → q ≡ s.privilege
+      → Puts most_pair_bytes o a (pair_text l w target_uri q) (privilege_lost l q) o' r
+      → Puts most_pair_bytes o a (set_step_text l w s) (step_lost l s) o' r
   unfolding set_step_text step_lost
   step_set r {o} {o'} {a} {q} e f x =
-      retold r x (rw (eq-eqb s.flag 1 e, f)) (rw (eq-eqb s.flag 1 e, f)) (rw f) (omega arith)
+      retold r x (rw (eq-eqb s.flag 1 e, f)) (rw (eq-eqb s.flag 1 e, f)) (omega arith)
 
 -- ---- levels
 
@@ -143,18 +137,18 @@ comma-later i e = rw (ne_eqb i 0 e)
 
 module _ (l : List ℕ) (x : Level) {o o' : List ℕ} {a : ℕ} where
   -- a fixed value has a name
-  pub value-fixed : (r : Result ℕ TextRefusal) → x.mark ≡ 1 → Puts most_name_bytes o a (name_text l value_names x.value) (name_lost l value_names x.value) [] o' r
-      → Puts most_name_bytes o a (value_text l x) (value_lost l x) [] o' r
+  pub value-fixed : (r : Placed) → x.mark ≡ 1 → Puts most_name_bytes o a (name_text l value_names x.value) (name_lost l value_names x.value) o' r
+      → Puts most_name_bytes o a (value_text l x) (value_lost l x) o' r
   unfolding value_text
   value-fixed r e y = rw (eq-eqb x.mark 1 e) y
 
   -- the sign for all values, counted together, and that for all, each by itself
-  pub value-every : {a' : ℕ} → x.mark ≡ 2 → Lays 1 o a every_sign o' a' → Puts most_name_bytes o a (value_text l x) (value_lost l x) [] o' (Ok a')
+  pub value-every : {a' : ℕ} → x.mark ≡ 2 → Lays 1 o a every_sign o' a' → Puts most_name_bytes o a (value_text l x) (value_lost l x) o' (record { next = a'; named = Ok tt })
   unfolding value_text
   value-every e y = rw e (puts-ok refl (told y refl (omega arith)))
 
   pub value-each : {a' : ℕ} → (x.mark ≡ 1 → ⊥) → (x.mark ≡ 2 → ⊥) → Lays 1 o a each_sign o' a'
-      → Puts most_name_bytes o a (value_text l x) (value_lost l x) [] o' (Ok a')
+      → Puts most_name_bytes o a (value_text l x) (value_lost l x) o' (record { next = a'; named = Ok tt })
   unfolding value_text
   value-each d e y = rw (ne_eqb x.mark 1 d, ne_eqb x.mark 2 e) (puts-ok refl (told y refl (omega arith)))
 
@@ -199,17 +193,3 @@ unfolding rule_text exclusions_text
 rule-words l r =
     rw (first-words l r.first_step, last-words l r.last_step)
     (rule-spelt (context_text l r) (step_text l "FirstStep" r.first_step) (step_text l "LastStep" r.last_step) (exclusions_text l r))
-
--- five pieces, joined from behind
-five-joined : (a b c d e : List ℕ) → a ++ b ++ c ++ d ++ e ≡ a ++ (b ++ (c ++ (d ++ e)))
-five-joined a b c d e = simp append_assoc
-
-module _ (l : List ℕ) (r : Rule) (e : context_lost l r ≡ false) where
-  -- what is laid down of a rule whose context has all its names: up to a step's name, or where those are listed too up to an exclusion's
-  pub begun-steps : steps_lost l r ≡ true → rule_start ++ context_text l r ++ tag_end ++ steps_begun l r ≡ rule_begun l r
-  unfolding rule_begun
-  begun-steps f = rw (e, f) (simp append_assoc)
-
-  pub begun-exclusions : steps_lost l r ≡ false → rule_start ++ context_text l r ++ tag_end ++ steps_text l r ++ exclusions_begun l r ≡ rule_begun l r
-  unfolding rule_begun
-  begun-exclusions f = rw (e, f) (five-joined rule_start (context_text l r) tag_end (steps_text l r) (exclusions_begun l r))

@@ -2,5 +2,4 @@ pub mod Words
 pub mod Laid
 pub mod Lost
 pub mod Pieces
-pub mod Begun
 pub mod Wrote

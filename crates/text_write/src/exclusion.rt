@@ -5,14 +5,13 @@ ghost use Rattle.format.specs.Rule.{privilege_at, exclusion_at};
 ghost use Rattle.fields.specs.Code.{privilege_of, exclusion_code};
 ghost use Rattle.xml.specs.Names.{role_names};
 ghost use Rattle.xml.specs.Write.{member_text, exclusion_text};
-ghost use Rattle.text_write.specs.Words.{role_start, most_word_bytes};
+ghost use Rattle.text_write.specs.Words.{most_word_bytes};
 ghost use Rattle.text_write.specs.Laid.{Lays, Puts};
 ghost use Rattle.text_write.specs.Lost.{name_lost, privilege_lost, member_lost, exclusion_lost};
 ghost use Rattle.text_write.specs.Pieces.{most_role_bytes, most_pair_bytes, most_members_bytes, most_opening_bytes, most_exclusion_bytes};
 ghost use Rattle.text_write.specs.Pieces.{role_text, pair_text, opening_text, members_text, members_lost, Countable};
-ghost use Rattle.text_write.specs.Begun.{pair_begun, member_begun, members_begun, exclusion_begun};
 
-use crate::put::{put, put_name};
+use crate::put::{Placed, put, put_name};
 use crate::spelling::{
     ELEMENT_END, PRIVILEGE, PRIVILEGES, PRIVILEGES_END, ROLE, ROLES, ROLES_END, TAG_END, TARGET,
 };
@@ -22,7 +21,6 @@ use fields::layout::{
     MEMBERS_AT, OF_ROLES,
 };
 use fields::privilege::Privilege;
-use format::answer::TextRefusal;
 use names::good::Names;
 use names::kind::NameKind;
 
@@ -34,37 +32,38 @@ pub fn put_pair(
     start: &[u8],
     between: &[u8],
     p: Privilege,
-) -> Result<usize, TextRefusal>
+) -> Placed
     requires at_bound { at + most_pair_bytes < 4294967296 }
     requires words { (length start.now ≤ most_word_bytes) × (length between.now ≤ most_word_bytes) }
-    ensures { Puts most_pair_bytes output.old at (pair_text names.now.list.now start.now between.now (privilege_of p)) (privilege_lost names.now.list.now (privilege_of p)) (pair_begun names.now.list.now start.now between.now (privilege_of p)) output.new result }
+    ensures { Puts most_pair_bytes output.old at (pair_text names.now.list.now start.now between.now (privilege_of p)) (privilege_lost names.now.list.now (privilege_of p)) output.new result }
 {
     let first = put(output, at, start);
-    let second = put_name(
+    let operation = put_name(
         output,
         first,
         names,
         NameKind::Operation.code(),
         p.operation.0,
-    )?;
-    let third = put(output, second, between);
-    let fourth = put_name(output, third, names, NameKind::Target.code(), p.target.0)?;
-    Ok(put(output, fourth, ELEMENT_END))
+    );
+    let third = put(output, operation.next, between);
+    let target = put_name(output, third, names, NameKind::Target.code(), p.target.0);
+    Placed {
+        next: put(output, target.next, ELEMENT_END),
+        named: operation.named.and(target.named),
+    }
 }
 
 // A role.
-fn put_role(
-    output: &mut [u8],
-    at: usize,
-    names: &Names<'_>,
-    role: u16,
-) -> Result<usize, TextRefusal>
+fn put_role(output: &mut [u8], at: usize, names: &Names<'_>, role: u16) -> Placed
     requires { at + most_role_bytes < 4294967296 }
-    ensures { Puts most_role_bytes output.old at (role_text names.now.list.now role) (name_lost names.now.list.now role_names role) role_start output.new result }
+    ensures { Puts most_role_bytes output.old at (role_text names.now.list.now role) (name_lost names.now.list.now role_names role) output.new result }
 {
     let first = put(output, at, ROLE);
-    let second = put_name(output, first, names, NameKind::Role.code(), role)?;
-    Ok(put(output, second, ELEMENT_END))
+    let name = put_name(output, first, names, NameKind::Role.code(), role);
+    Placed {
+        next: put(output, name.next, ELEMENT_END),
+        named: name.named,
+    }
 }
 
 // A member of an exclusion: a role or a privilege.
@@ -74,9 +73,9 @@ fn put_member(
     names: &Names<'_>,
     kind: ExclusionKind,
     p: Privilege,
-) -> Result<usize, TextRefusal>
+) -> Placed
     requires { at + most_pair_bytes < 4294967296 }
-    ensures { Puts most_pair_bytes output.old at (member_text names.now.list.now (exclusion_code kind) (privilege_of p)) (member_lost names.now.list.now (exclusion_code kind) (privilege_of p)) (member_begun names.now.list.now (exclusion_code kind) (privilege_of p)) output.new result }
+    ensures { Puts most_pair_bytes output.old at (member_text names.now.list.now (exclusion_code kind) (privilege_of p)) (member_lost names.now.list.now (exclusion_code kind) (privilege_of p)) output.new result }
 {
     match kind {
         ExclusionKind::Roles => put_role(output, at, names, p.operation.0),
@@ -93,17 +92,20 @@ fn put_members(
     b: &[u8; BLOCK_BYTES],
     members: usize,
     n: usize,
-) -> Result<usize, TextRefusal>
+) -> Placed
     requires start_bound { start + most_members_bytes < 4294967296 }
     requires n_le_most_members { (n ≤ most_members) × (members + member_bytes * most_members ≤ length b.now) }
-    ensures { Puts most_members_bytes output.old start (members_text names.now.list.now (exclusion_code kind) (λ i. privilege_at b.now (members + member_bytes * i)) n) (members_lost names.now.list.now (exclusion_code kind) (λ i. privilege_at b.now (members + member_bytes * i)) n) (members_begun names.now.list.now (exclusion_code kind) (λ i. privilege_at b.now (members + member_bytes * i)) n) output.new result }
+    ensures { Puts most_members_bytes output.old start (members_text names.now.list.now (exclusion_code kind) (λ i. privilege_at b.now (members + member_bytes * i)) n) (members_lost names.now.list.now (exclusion_code kind) (λ i. privilege_at b.now (members + member_bytes * i)) n) output.new result }
 {
     let mut at = start;
+    let mut named = Ok(());
     for i in 0..n {
         let p = Privilege::read(b, members + MEMBER_BYTES * i);
-        at = put_member(output, at, names, kind, p)?;
+        let member = put_member(output, at, names, kind, p);
+        at = member.next;
+        named = named.and(member.named);
     }
-    Ok(at)
+    Placed { next: at, named }
 }
 
 // One of two fixed pieces: that of roles, or that of privileges.
@@ -145,15 +147,22 @@ pub fn put_exclusion(
     names: &Names<'_>,
     b: &[u8; BLOCK_BYTES],
     e: usize,
-) -> Result<usize, TextRefusal>
+) -> Placed
     requires at_bound { at + most_exclusion_bytes < 4294967296 }
     requires e_lt { (e < most_exclusions) × Countable (exclusion_at b.now e) }
-    ensures { Puts most_exclusion_bytes output.old at (exclusion_text names.now.list.now (exclusion_at b.now e)) (exclusion_lost names.now.list.now (exclusion_at b.now e)) (exclusion_begun names.now.list.now (exclusion_at b.now e)) output.new result }
+    ensures { Puts most_exclusion_bytes output.old at (exclusion_text names.now.list.now (exclusion_at b.now e)) (exclusion_lost names.now.list.now (exclusion_at b.now e)) output.new result }
 {
     let begin = EXCLUSION_BYTES * e;
     let kind = kind_of(b[EXCLUSION_KIND_AT + begin]);
     let n = usize::from(b[EXCLUSION_N_AT + begin]);
     let first = put_opening(output, at, kind, b[EXCLUSION_M_AT + begin]);
-    let second = put_members(output, first, names, kind, b, MEMBERS_AT + begin, n)?;
-    Ok(put(output, second, by_kind(kind, ROLES_END, PRIVILEGES_END)))
+    let members = put_members(output, first, names, kind, b, MEMBERS_AT + begin, n);
+    Placed {
+        next: put(
+            output,
+            members.next,
+            by_kind(kind, ROLES_END, PRIVILEGES_END),
+        ),
+        named: members.named,
+    }
 }

@@ -27,10 +27,12 @@ fn put_rules(
     let mut at = start;
     for k in 0..policy.rules {
         let b = policy.rule(k);
-        at = put_rule(output, at, names, b)?;
+        let rule = put_rule(output, at, names, b);
+        rule.named?;
         if has_range(b) {
             return Err(TextRefusal::NotWithin);
         }
+        at = rule.next;
     }
     Ok(at)
 }

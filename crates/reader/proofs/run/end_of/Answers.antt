@@ -11,8 +11,8 @@ use Rattle.forms.specs.Form.{is_of}
 use Rattle.forms.specs.Code.{kind_of}
 use Rattle.forms.specs.Run.{run}
 use Rattle.reader.proofs.Counts.{run-found, behind_all}
-use Rattle.reader.proofs.run.run_end.Goals.{After-position}
-use Rattle.reader.proofs.run.run_end.Goals as goal
+use Rattle.reader.proofs.run.end_of.Goals.{After-position}
+use Rattle.reader.proofs.run.end_of.Goals as goal
 
 -- what the call of `position` says
 found : (c : After-position) → let u = drop c.args.at c.args.text.now in unwrap_or c.position.result (length u) ≡ run (kind_of c.args.kind) u
